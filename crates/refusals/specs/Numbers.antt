@@ -1,0 +1,62 @@
+-- The refusal numbers of document 01, "Where each refusal is checked", each once for the contracts; src/lib.rt has each once for the code.
+use Prim.Native.Nat.{ℕ}
+
+-- the call worked
+abbrev pub noRefusal : ℕ
+noRefusal = 0
+
+-- system not 10 or 12
+abbrev pub unknownSystem : ℕ
+unknownSystem = 1
+
+-- fewer than 2,048 samples from start
+abbrev pub shortWindow : ℕ
+shortWindow = 2
+
+-- a sample out of range
+abbrev pub sampleOutOfRange : ℕ
+sampleOutOfRange = 3
+
+-- not 512 lines
+abbrev pub wrongLineCount : ℕ
+wrongLineCount = 4
+
+-- a line above 2^59
+abbrev pub lineTooLarge : ℕ
+lineTooLarge = 5
+
+-- order outside the orders of the call
+abbrev pub orderOutOfRange : ℕ
+orderOutOfRange = 6
+
+-- record not sound
+abbrev pub unsoundRecord : ℕ
+unsoundRecord = 7
+
+-- system differs from the record's
+abbrev pub otherSystem : ℕ
+otherSystem = 8
+
+-- 45,000 windows held
+abbrev pub recordFull : ℕ
+recordFull = 9
+
+-- no window yet
+abbrev pub noWindow : ℕ
+noWindow = 10
+
+-- K outside 1..2^28
+abbrev pub scaleOutOfRange : ℕ
+scaleOutOfRange = 11
+
+-- group 1 is 0
+abbrev pub noFundamental : ℕ
+noFundamental = 12
+
+-- text not of the form, or number wider than its column
+abbrev pub notAColumn : ℕ
+notAColumn = 13
+
+-- text buffer of the wrong length
+abbrev pub wrongBufferLength : ℕ
+wrongBufferLength = 14

@@ -1,0 +1,39 @@
+// The refusal numbers of document 01's table, each once, under a name that says what it refuses.
+// specs/Numbers.antt has the same numbers once for the contracts.
+
+// The call worked: nothing is refused.
+pub const NO_REFUSAL: u32 = 0;
+// The system is neither 10 nor 12 cycles in a window.
+pub const UNKNOWN_SYSTEM: u32 = 1;
+// Fewer than 2,048 samples from the start of the window.
+pub const SHORT_WINDOW: u32 = 2;
+// A sample of the window lies outside -131,071..131,071.
+pub const SAMPLE_OUT_OF_RANGE: u32 = 3;
+// A buffer of lines that does not hold 512.
+pub const WRONG_LINE_COUNT: u32 = 4;
+// A spectral line above 2^59.
+pub const LINE_TOO_LARGE: u32 = 5;
+// A harmonic order outside the orders of the call.
+pub const ORDER_OUT_OF_RANGE: u32 = 6;
+// An observation record that is not sound.
+pub const UNSOUND_RECORD: u32 = 7;
+// A row whose system is not the record's.
+pub const OTHER_SYSTEM: u32 = 8;
+// The record holds 45,000 windows already.
+pub const RECORD_FULL: u32 = 9;
+// No window has come yet.
+pub const NO_WINDOW: u32 = 10;
+// K, the units per ampere, lies outside 1..2^28.
+pub const SCALE_OUT_OF_RANGE: u32 = 11;
+// The distortion of a row whose first value is 0.
+pub const NO_FUNDAMENTAL: u32 = 12;
+// A text that is no number column, or a number wider than its column.
+pub const NOT_A_COLUMN: u32 = 13;
+// A text buffer of the wrong length.
+pub const WRONG_BUFFER_LENGTH: u32 = 14;
+
+// What a public call answers: NO_REFUSAL with the value, or a refusal's number with 0.
+pub struct Answer {
+    pub refusal: u32,
+    pub value: u64,
+}

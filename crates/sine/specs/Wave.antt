@@ -1,0 +1,22 @@
+-- The sine table of document 01: each of the 513 entries of the quarter wave is 2^30 times the exact sine, to the nearest whole number, halves up.
+use Prim.Native.Nat.{ℕ, _+_, _*_, _^_}
+use lib.IntN.{ℤ}
+use Rattle.algebra.specs.Rounding.{nearest}
+use Rattle.sine.specs.Turn.{overTurn, quarterTurn}
+use Rattle.sine.specs.ExactSine.{quarterSine, denominator}
+
+-- the table's value for a sine of 1
+abbrev pub fullScale : ℕ
+fullScale = 2 ^ 30
+
+-- the table's entry at m = 0..512
+unfoldable pub tableEntry : ℕ → ℕ
+tableEntry m = nearest (fullScale * quarterSine m) denominator
+
+-- the table's sine at any index of the turn
+unfoldable pub tableSine : ℕ → ℤ
+tableSine i = overTurn tableEntry i
+
+-- "cosine at m is sine at m+512"
+unfoldable pub tableCosine : ℕ → ℤ
+tableCosine i = tableSine (i + quarterTurn)
