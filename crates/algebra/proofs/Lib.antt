@@ -1,1 +1,2 @@
 -- The theorems of the shared mathematics.
+pub mod Lists

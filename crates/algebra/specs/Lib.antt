@@ -2,4 +2,5 @@
 pub mod Rounding
 pub mod Fraction
 pub mod Sums
+pub mod Lists
 pub mod Largest

@@ -1,24 +1,19 @@
 -- How a row of document 01's refusal table decides, and what a call then answers.
-use mathlib.Core.Bool.{Bool, true, false}
+use mathlib.Core.Bool.{Bool, cond}
 use mathlib.Core.List.{List, [], _∷_}
 use Prim.Native.Nat.{ℕ}
 use lib.Dec.{eqb}
 use Rattle.refusals.specs.Numbers.{noRefusal}
 use Rattle.refusals.specs.declared.Answer.{Answer}
 
--- the first where the test holds, else the second
-abbrev pub pick {ℓ} : {A : Type ℓ} → Bool → A → A → A
-pick true a b = a
-pick false a b = b
-
 -- "First match in each row wins": of a row of checks, each a test for a fault with its number, the number of the first fault that is there
 abbrev pub firstFault : List (Bool × ℕ) → ℕ
 firstFault [] = noRefusal
-firstFault (check ∷ checks) = pick (check .0) (check .1) (firstFault checks)
+firstFault (check ∷ checks) = cond (check .0) (check .1) (firstFault checks)
 
 -- what stands on the way that works, and what stands where the call is refused
 abbrev pub unlessRefused {ℓ} : {A : Type ℓ} → ℕ → A → A → A
-unlessRefused refusal worked unchanged = pick (eqb refusal noRefusal) worked unchanged
+unlessRefused refusal worked unchanged = cond (eqb refusal noRefusal) worked unchanged
 
 -- "A refusal gives its number with 0 as value"
 abbrev pub answer : ℕ → ℕ → Answer

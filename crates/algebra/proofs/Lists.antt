@@ -1,0 +1,74 @@
+-- Laws of `tabulate` and `anyOf`, in the form that a loop over a list's places uses: what is filled is the front of the definition's list, and the test over the rest is the test over the whole.
+-- Assumes nothing.
+use mathlib.Core.Path.{_≡_, refl, sym, _∙_, ap}
+use mathlib.Core.Logic.{⊎-elim}
+use mathlib.Core.Bool.{Bool, true, false, _||_}
+use mathlib.Core.List.{List, [], _∷_, _++_, append-assoc, append-nil}
+use Prim.Native.Nat.{ℕ, zero, suc, _+_, _<_, _≤_}
+use native.Mathlib.Numerals.{add-one}
+use native.Mathlib.Nat.{eq-or-lt-of-le, le-of-suc-le-suc, not-suc-le-zero}
+use native.Mathlib.Omega.{arith}
+use lib.ListN.{length, getD, drop, set, length-append, List·getD-append}
+use lib.Seq.{drop-cons, drop-length, getD-at, set-at, append-snoc}
+use Rattle.algebra.specs.Lists.{tabulate, anyOf}
+
+module _ {ℓ} {A : Type ℓ} where
+  pub length-tabulate : (n : ℕ) (f : ℕ → A) → length (tabulate n f) ≡ n
+  unfolding tabulate
+  length-tabulate zero f = refl
+  length-tabulate (suc n) f = simp (length-append, length-tabulate n f) (add-one n)
+
+  pub getD-tabulate : (n : ℕ) (f : ℕ → A) (i : ℕ) (d : A) → i < n → getD (tabulate n f) i d ≡ f i
+  unfolding tabulate
+  getD-tabulate zero f i d h = absurd (not-suc-le-zero h)
+  getD-tabulate (suc n) f i d h =
+      ⊎-elim
+      (λ (e : i ≡ n). rw e (getD-at (tabulate n f) (f n) [] d n (length-tabulate n f)))
+      (λ (l : i < n).
+      List·getD-append (tabulate n f) (f n ∷ []) d i (rw (length-tabulate n f) l) ∙ getD-tabulate n f i d l)
+      (eq-or-lt-of-le (le-of-suc-le-suc h))
+
+  -- the entry after a front of n entries is written
+  pub set-tabulate : (n : ℕ) (f : ℕ → A) (y : A) (ys : List A) → set (tabulate n f ++ y ∷ ys) n (f n) ≡ tabulate (n + 1) f ++ ys
+  unfolding tabulate
+  set-tabulate n f y ys =
+      rw (add-one n)
+      (set-at (tabulate n f) y ys (f n) n (length-tabulate n f) ∙ sym (append-assoc (tabulate n f) (f n ∷ []) ys))
+
+  -- the same of a list l that has room: the front of n entries, then l from n on
+  pub fill-tabulate : (n : ℕ) (f : ℕ → A) (l : List A) → n < length l → set (tabulate n f ++ drop n l) n (f n) ≡ tabulate (n + 1) f ++ drop (n + 1) l
+  fill-tabulate n f l h =
+      rw (drop-cons l n (f n) h, add-one n) (rw (add-one n) at (set-tabulate n f (getD l n (f n)) (drop (suc n) l)))
+
+  -- a front of as many entries as the list has is the whole
+  pub filled-tabulate : (n : ℕ) (f : ℕ → A) (l : List A) → length l ≡ n → tabulate n f ++ drop n l ≡ tabulate n f
+  filled-tabulate n f l e = rw (← e, drop-length l) (append-nil (tabulate (length l) f))
+
+  -- a test that fails at place i has the same answer from i + 1 on
+  pub anyOf-drop : (passes : A → Bool) (l : List A) (i : ℕ) (d : A) → i < length l → passes (getD l i d) ≡ false → anyOf passes (drop (i + 1) l) ≡ anyOf passes (drop i l)
+  unfolding anyOf
+  anyOf-drop passes l i d h e = rw (add-one i, drop-cons l i d h, e)
+
+  -- a test that passes at place i passes
+  pub anyOf-here : (passes : A → Bool) (l : List A) (i : ℕ) (d : A) → i < length l → passes (getD l i d) ≡ true → anyOf passes (drop i l) ≡ true
+  unfolding anyOf
+  anyOf-here passes l i d h e = rw (drop-cons l i d h, e)
+
+  pub anyOf-end : (passes : A → Bool) (l : List A) → anyOf passes (drop (length l) l) ≡ false
+  unfolding anyOf
+  anyOf-end passes l = rw (drop-length l)
+
+  -- where no element passes, none at any place does
+  pub anyOf-none : (passes : A → Bool) (l : List A) (i : ℕ) (d : A) → anyOf passes l ≡ false → i < length l → passes (getD l i d) ≡ false
+  unfolding anyOf
+  anyOf-none passes [] i d e h = absurd (not-suc-le-zero h)
+  anyOf-none passes (x ∷ xs) zero d e h = first (passes x) (anyOf passes xs) e
+    where
+      first : (a b : Bool) → (a || b) ≡ false → a ≡ false
+      first true b p = p
+      first false b p = refl
+  anyOf-none passes (x ∷ xs) (suc i) d e h = anyOf-none passes xs i d (rest (passes x) (anyOf passes xs) e) (le-of-suc-le-suc h)
+    where
+      rest : (a b : Bool) → (a || b) ≡ false → b ≡ false
+      rest true b p = absurd (mathlib.Core.Bool.true≢false p)
+      rest false b p = p

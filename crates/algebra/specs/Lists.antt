@@ -1,0 +1,15 @@
+-- Lists by their places, and a test over a list.
+use mathlib.Core.Bool.{Bool, true, false, _||_}
+use mathlib.Core.List.{List, [], _∷_, _++_}
+use Prim.Native.Nat.{ℕ, zero, suc}
+
+module _ {ℓ} {A : Type ℓ} where
+  -- f 0, f 1, .. f (n − 1)
+  unfoldable pub tabulate : ℕ → (ℕ → A) → List A
+  tabulate zero f = []
+  tabulate (suc n) f = tabulate n f ++ (f n ∷ [])
+
+  -- some element passes the test
+  unfoldable pub anyOf : (A → Bool) → List A → Bool
+  anyOf passes [] = false
+  anyOf passes (x ∷ xs) = passes x || anyOf passes xs
