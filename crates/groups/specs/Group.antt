@@ -1,0 +1,50 @@
+-- The group value and what the call answers (document 01, "Groups" and the refusal table's row "group value").
+use mathlib.Core.Bool.{Bool, not, _&&_, _||_}
+use mathlib.Core.List.{List, [], _∷_}
+use Prim.Native.Nat.{ℕ, _^_}
+use lib.Dec.{eqb, leb, ltb}
+use lib.ListN.{length, getD}
+use Rattle.algebra.specs.Lists.{anyOf}
+use Rattle.integers.specs.Root.{rootOf}
+use Rattle.refusals.specs.Numbers.{unknownSystem, orderOutOfRange, wrongLineCount, lineTooLarge}
+use Rattle.refusals.specs.Answers.{firstFault, answer}
+use Rattle.refusals.specs.declared.Answer.{Answer}
+use Rattle.spectrum.specs.Line.{lineCount}
+use Rattle.groups.specs.declared.Kind.{Kind}
+use Rattle.groups.specs.Weights.{weightsOf, weightedSum}
+
+-- the orders of a group: 1..40
+abbrev pub orderCount : ℕ
+orderCount = 40
+
+-- the largest line that is taken
+abbrev pub largestLine : ℕ
+largestLine = 2 ^ 59
+
+-- the system: the cycles in a window, 10 at 50 Hz and 12 at 60 Hz
+unfoldable pub isSystem : ℕ → Bool
+isSystem n = eqb n 10 || eqb n 12
+
+unfoldable pub isOrder : ℕ → Bool
+isOrder h = ltb 0 h && leb h orderCount
+
+-- the line with a number, 0 past the end
+abbrev pub lineAt : List ℕ → ℕ → ℕ
+lineAt lines k = getD lines k 0
+
+-- the whole part of the square root of the sum of 2×w×L
+unfoldable pub groupValue : Kind → ℕ → ℕ → List ℕ → ℕ
+groupValue kind system order lines = rootOf (weightedSum (lineAt lines) (weightsOf kind system order))
+
+-- 1 system not 10 or 12; 6 order outside 1..40; 4 not 512 lines; 5 any of the 512 above 2^59
+unfoldable pub groupRefusal : ℕ → ℕ → List ℕ → ℕ
+groupRefusal system order lines =
+    firstFault
+    ((not (isSystem system), unknownSystem) ∷
+    (not (isOrder order), orderOutOfRange) ∷
+    (not (eqb (length lines) lineCount), wrongLineCount) ∷
+    (anyOf (ltb largestLine) lines, lineTooLarge) ∷
+    [])
+
+unfoldable pub groupAnswer : Kind → ℕ → ℕ → List ℕ → Answer
+groupAnswer kind system order lines = answer (groupRefusal system order lines) (groupValue kind system order lines)

@@ -1,0 +1,2 @@
+-- Square roots of whole numbers.
+pub mod Root

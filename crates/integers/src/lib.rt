@@ -1,0 +1,1 @@
+// Whole-number arithmetic beyond the machine's operators: square roots and wide numbers.

@@ -1,0 +1,4 @@
+-- From samples to spectrum: document 01's lines, the exact sums behind them, and what the call answers.
+pub mod Line
+pub mod Exact
+pub mod Spectrum

@@ -1,0 +1,46 @@
+-- The spectral lines of a window (document 01, "From samples to spectrum").
+use mathlib.Core.List.{List}
+use Prim.Native.Nat.{ℕ, _+_, _*_, _^_}
+use lib.IntN.{ℤ, pos, _*ℤ_, natAbs}
+use lib.ListN.{getD, take, drop}
+use Rattle.algebra.specs.Lists.{tabulate}
+use Rattle.algebra.specs.Rounding.{nearestℤ}
+use Rattle.algebra.specs.Sums.{sumTo}
+use Rattle.sine.specs.Wave.{tableSine, tableCosine}
+
+-- samples in a window
+abbrev pub windowLength : ℕ
+windowLength = 2048
+
+-- lines of a spectrum
+abbrev pub lineCount : ℕ
+lineCount = 512
+
+-- what the sums are divided by
+abbrev pub sumScale : ℕ
+sumScale = 2 ^ 29
+
+-- the window: the samples of the recording that begin at the start
+unfoldable pub windowAt : List ℤ → ℕ → List ℤ
+windowAt recording start = take windowLength (drop start recording)
+
+-- the sum over j = 0..2047 of sample j times the wave at jk, before any division
+unfoldable pub lineSum : (ℕ → ℤ) → List ℤ → ℕ → ℤ
+lineSum wave window k = sumTo windowLength (λ j. getD window j (pos 0) *ℤ wave (j * k))
+
+-- the sum divided by 2^29, to the nearest, halves up: document 01's A with the table's cosine as the wave, its B with the table's sine
+unfoldable pub roundedSum : (ℕ → ℤ) → List ℤ → ℕ → ℤ
+roundedSum wave window k = nearestℤ (lineSum wave window k) sumScale
+
+-- the square of a whole number
+unfoldable pub square : ℤ → ℕ
+square z = natAbs z * natAbs z
+
+-- the line: the sum of the squares of A and B
+unfoldable pub lineOf : List ℤ → ℕ → ℕ
+lineOf window k =
+    square (roundedSum tableCosine window k) + square (roundedSum tableSine window k)
+
+-- the 512 lines
+unfoldable pub linesOf : List ℤ → List ℕ
+linesOf window = tabulate lineCount (lineOf window)

@@ -1,0 +1,1 @@
+// From the samples of a window to its 512 spectral lines.
