@@ -2,5 +2,6 @@
 pub mod Rounding
 pub mod Fraction
 pub mod Sums
+pub mod Weighted
 pub mod Lists
 pub mod Largest
