@@ -5,3 +5,7 @@ pub mod SumTo
 pub mod Weighted
 pub mod Norm
 pub mod Lists
+pub mod Largest
+pub mod Computed
+pub mod Rounding
+pub mod Fraction

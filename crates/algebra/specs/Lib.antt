@@ -5,3 +5,4 @@ pub mod Sums
 pub mod Weighted
 pub mod Lists
 pub mod Largest
+pub mod Computed
