@@ -1,1 +1,3 @@
-// Whole-number arithmetic beyond the machine's operators: square roots and wide numbers.
+// Whole numbers: the integer square root, and numbers wider than 64 bits.
+pub mod limbs;
+pub mod square_root;
