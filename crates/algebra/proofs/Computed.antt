@@ -2,12 +2,15 @@
 -- The checker computes the test to true, so `tt` proves it; `rw (entry-is-rule rule)` finds the list in the goal, so that a table's numbers stand once.
 use mathlib.Core.Bool.{Bool, true, false, _&&_}
 use mathlib.Core.List.{List, [], _∷_}
-use mathlib.Core.Path.{_≡_, refl}
+use mathlib.Core.Path.{_≡_, refl, sym, _∙_}
 use Prim.Native.Nat.{ℕ, zero, suc, _+_, _*_, _<_}
 use native.Mathlib.Nat.{add-zero, add-suc, suc-add, zero-add, not-suc-le-zero, le-of-suc-le-suc}
 use lib.Dec.{T, eqb, eqb→eq}
-use lib.ListN.{length, getD}
+use lib.ListN.{length, getD, replicate, length-replicate}
+use lib.Seq.{ext-getD}
 use Rattle.algebra.specs.Computed.{passFrom, allPass}
+use Rattle.algebra.specs.Lists.{tabulate}
+use Rattle.algebra.proofs.Lists.{length-tabulate, getD-tabulate}
 
 -- the numbers of a list are the squares of their places
 abbrev squares : List ℕ → Bool
@@ -40,6 +43,16 @@ pass-at test entries t k h other = rw zero-add at (pass-from test entries 0 t k 
 pub entry-is-rule : (rule : ℕ → ℕ) (entries : List ℕ) → T (allPass (λ k entry. eqb entry (rule k)) entries) → (k : ℕ) → k < length entries → (other : ℕ) → getD entries k other ≡ rule k
 entry-is-rule rule entries t k h other =
     eqb→eq (getD entries k other) (rule k) (pass-at (λ k entry. eqb entry (rule k)) entries t k h other)
+
+-- a table of which every entry is what a rule gives for its place is the rule's list
+pub table-is-rule : (rule : ℕ → ℕ) (table : List ℕ) → T (allPass (λ k entry. eqb entry (rule k)) table) → table ≡ tabulate (length table) rule
+table-is-rule rule table t =
+    ext-getD 0 table (tabulate (length table) rule) (sym (length-tabulate (length table) rule))
+    (λ k h. entry-is-rule rule table t k h 0 ∙ sym (getD-tabulate (length table) rule k 0 h))
+
+-- a test of every number below n
+pub pass-below : (test : ℕ → Bool) (n : ℕ) → T (allPass {A = ℕ} (λ k _. test k) (replicate n 0)) → (k : ℕ) → k < n → T (test k)
+pass-below test n t k h = pass-at (λ k _. test k) (replicate n 0) t k (rw length-replicate h) 0
 
 -- the law at work
 squares-pass : (k : ℕ) → k < 5 → getD (0 ∷ 1 ∷ 4 ∷ 9 ∷ 16 ∷ []) k 0 ≡ k * k

@@ -1,0 +1,4 @@
+-- The theorems of the exact sine and of the table.
+pub mod Turn
+pub mod ExactSine
+pub mod Wave

@@ -1,0 +1,22 @@
+-- `sine::fill_wave` meets its contract: the buffer's length is a turn.
+-- Assumes nothing.
+use mathlib.Core.Path.{_∙_, ap}
+use Prim.Native.Nat.{ℕ}
+use borrow.Author.Needs.{needs}
+use Rattle.algebra.specs.Lists.{tabulate}
+use Rattle.sine.specs.Wave.{tableSine, waveList}
+use Rattle.sine.proofs.fill_wave.Statement.{statement}
+use Rattle.sine.proofs.fill_wave.Tie as tie
+
+quarter-wave-requires : tie.Need-quarter-wave-requires
+quarter-wave-requires c κs = search needs
+
+fill-from-requires : tie.Need-fill-from-requires
+fill-from-requires c κs = search needs
+
+returns : tie.Need-returns
+unfolding waveList
+returns c = c .fill-from .ensures ∙ ap (λ (n : ℕ). tabulate n tableSine) (search needs)
+
+pub fill-wave-spec : {M : Type 1} → statement M
+fill-wave-spec = tie.close (tie.spec quarter-wave-requires fill-from-requires returns)
