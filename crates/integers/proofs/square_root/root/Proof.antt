@@ -14,7 +14,7 @@ abbrev μ-loop : tie.MeasureT-loop
 μ-loop n r₀ r = r
 
 returns : tie.Need-returns Inv-loop μ-loop
-returns c = root-unique (c .before .args .n) 0 (lt-rootLimit _ (c .before .fits .n .fits)) (omega arith)
+returns c = root-unique (c .before .args .n) _ (lt-rootLimit _ (c .before .fits .n .fits)) (omega arith)
 
 sub-r : tie.Need-sub-r Inv-loop μ-loop
 sub-r c = omega (arith, leading-le 64 (c .before .args .n))
