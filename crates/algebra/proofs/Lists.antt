@@ -72,3 +72,9 @@ module _ {ℓ} {A : Type ℓ} where
       rest : (a b : Bool) → (a || b) ≡ false → b ≡ false
       rest true b p = absurd (mathlib.Core.Bool.true≢false p)
       rest false b p = p
+
+  -- and where none at any place does, no element passes
+  pub anyOf-false : (passes : A → Bool) (l : List A) (d : A) → ((i : ℕ) → i < length l → passes (getD l i d) ≡ false) → anyOf passes l ≡ false
+  unfolding anyOf
+  anyOf-false passes [] d e = refl
+  anyOf-false passes (x ∷ xs) d e = rw (e 0 (omega arith)) (anyOf-false passes xs d (λ i h. e (suc i) (omega arith)))

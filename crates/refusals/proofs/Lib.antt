@@ -1,0 +1,2 @@
+-- The laws of a row of checks.
+pub mod Answers
