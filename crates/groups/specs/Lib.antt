@@ -2,4 +2,5 @@
 pub mod Weights
 pub mod Exact
 pub mod Group
+pub mod Limbs
 pub mod Distortion

@@ -2,3 +2,4 @@
 pub mod Line
 pub mod Exact
 pub mod Spectrum
+pub mod Prepared

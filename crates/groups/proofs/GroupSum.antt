@@ -1,0 +1,77 @@
+-- What is known of a group call that is not refused, and that its sum of 2×w×L fits 64 bits without sign.
+-- Assumes nothing.
+use mathlib.Core.Path.{_≡_, refl}
+use mathlib.Core.Bool.{Bool, true, false, not}
+use mathlib.Core.List.{List}
+use Prim.Native.Nat.{ℕ, _*_, _^_, _≤_, _<_}
+use native.Mathlib.Nat.{mul-le-mul-right}
+use native.Mathlib.Omega.{arith}
+use lib.Dec.{eqb, ltb}
+use lib.ListN.{length, List·getD-eq-default}
+use borrow.Author.Tests.{ltb-true, ltb-false, eqb-true, not-false}
+use Rattle.algebra.specs.Lists.{tabulate, anyOf}
+use Rattle.algebra.proofs.Lists.{anyOf-none}
+use Rattle.integers.proofs.Root.{Root, root-law, lt-rootLimit}
+use Rattle.refusals.specs.Numbers.{noRefusal, unknownSystem, orderOutOfRange, wrongLineCount, lineTooLarge}
+use Rattle.refusals.proofs.Answers.{no-fault}
+use Rattle.spectrum.specs.Line.{lineCount}
+use Rattle.groups.specs.declared.Kind.{Kind}
+use Rattle.groups.specs.Weights.{Weighted, weightsOf, weightedSum}
+use Rattle.groups.specs.Group.{isSystem, isOrder, orderCount, largestLine, lineAt, groupRefusal, groupValue}
+use Rattle.groups.proofs.Weights.{totalTwiceWeight, largestTotal, every-of-all, weightedSum-le-total, weights-total-le}
+
+-- where no line is above the largest that is taken, no line read is, also none past the end
+pub line-le : (lines : List ℕ) → anyOf (ltb largestLine) lines ≡ false → (k : ℕ) → lineAt lines k ≤ largestLine
+line-le lines e k = go (ltb k (length lines)) refl
+  where
+    go : (within : Bool) → ltb k (length lines) ≡ within → lineAt lines k ≤ largestLine
+    go true p =
+        ltb-false largestLine (lineAt lines k) (anyOf-none (ltb largestLine) lines k 0 e (ltb-true k (length lines) p))
+    go false p =
+        let past : lineAt lines k ≡ 0 = List·getD-eq-default lines 0 (ltb-false k (length lines) p) in
+        omega arith
+
+-- lines in range, with any weights that add up to at most 12: their sum of 2×w×L fits 64 bits
+pub weighted-sum-lt : (lines : List ℕ) → anyOf (ltb largestLine) lines ≡ false → (xs : List Weighted) → totalTwiceWeight xs ≤ largestTotal → weightedSum (lineAt lines) xs < 2 ^ 64
+weighted-sum-lt lines e xs h =
+    let bound : weightedSum (lineAt lines) xs ≤ totalTwiceWeight xs * largestLine =
+    weightedSum-le-total (lineAt lines) largestLine xs (every-of-all _ (line-le lines e) xs) in
+    omega (arith, mul-le-mul-right largestLine h)
+
+-- a group call that is not refused
+pub record Accepted (system order : ℕ) (lines : List ℕ) : Type 0 where
+  pub known-system : isSystem system ≡ true
+  pub known-order : isOrder order ≡ true
+  pub line-count : length lines ≡ lineCount
+  pub in-range : anyOf (ltb largestLine) lines ≡ false
+
+pub accepted : (system order : ℕ) (lines : List ℕ) → groupRefusal system order lines ≡ noRefusal → Accepted system order lines
+unfolding groupRefusal
+accepted system order lines e =
+    let a = no-fault (not (isSystem system)) unknownSystem _ (omega arith) e in
+    let b = no-fault (not (isOrder order)) orderOutOfRange _ (omega arith) (a .1) in
+    let c = no-fault (not (eqb (length lines) lineCount)) wrongLineCount _ (omega arith) (b .1) in
+    let d = no-fault (anyOf (ltb largestLine) lines) lineTooLarge _ (omega arith) (c .1) in
+    record {
+      known-system = not-false _ (a .0);
+      known-order = not-false _ (b .0);
+      line-count = eqb-true _ _ (not-false _ (c .0));
+      in-range = d .0;
+    }
+
+-- the sum of every group that is not refused fits 64 bits
+pub group-sum-lt : (kind : Kind) (system order : ℕ) (lines : List ℕ) → groupRefusal system order lines ≡ noRefusal → weightedSum (lineAt lines) (weightsOf kind system order) < 2 ^ 64
+group-sum-lt kind system order lines e =
+    let a = accepted system order lines e in
+    weighted-sum-lt lines (a .in-range) (weightsOf kind system order) (weights-total-le kind system order (a .known-system))
+
+-- the value of such a group is the whole part of the root of its sum
+pub group-value-root : (kind : Kind) (system order : ℕ) (lines : List ℕ) → groupRefusal system order lines ≡ noRefusal → Root (weightedSum (lineAt lines) (weightsOf kind system order)) (groupValue kind system order lines)
+unfolding groupValue
+group-value-root kind system order lines e =
+    root-law _ (lt-rootLimit _ (group-sum-lt kind system order lines e))
+
+-- the hypotheses can be met: the last order, at lines as large as any that is taken
+largest-lines-accepted : groupRefusal 12 orderCount (tabulate lineCount (λ k. largestLine)) ≡ noRefusal
+unfolding groupRefusal isSystem isOrder anyOf tabulate
+largest-lines-accepted = refl

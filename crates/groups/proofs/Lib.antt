@@ -1,0 +1,4 @@
+-- The theorems of the groups and of group distortion.
+pub mod Weights
+pub mod GroupSum
+pub mod RowDistortion

@@ -1,0 +1,181 @@
+-- Laws of the weighted sum over any list of weights: additive, never falling, at most the total weight times the largest line.
+-- Of the kinds' own lists: for systems 10 and 12 twice the weights add up to at most 24, and for orders 1..40 every line number is below 512.
+-- Assumes nothing.
+use mathlib.Core.Path.{_≡_, refl, sym, _∙_}
+use mathlib.Core.Bool.{Bool, true, false, _||_, _&&_, true≢false}
+use mathlib.Core.Logic.{_⊎_, inl, inr, ⊎-elim}
+use mathlib.Core.List.{List, [], _∷_, _++_}
+use Prim.Native.Nat.{ℕ, zero, suc, _+_, _-_, _*_, _/_, _≤_, _<_}
+use native.Mathlib.Numerals.{add-one}
+use native.Mathlib.Nat.{mul-le-mul, mul-le-mul-left, eq-or-lt-of-le, le-of-suc-le-suc}
+use native.Mathlib.Omega.{arith}
+use lib.Dec.{eqb, leb, ltb}
+use borrow.Author.Tests.{eqb-true, leb-true, ltb-true}
+use Rattle.algebra.specs.Lists.{tabulate}
+use Rattle.spectrum.specs.Line.{lineCount}
+use Rattle.groups.specs.declared.Kind.{Kind}
+use Rattle.groups.specs.declared.Kind.the-variants.{Component, HarmonicGroup, HarmonicSubgroup, InterharmonicGroup, InterharmonicCentredSubgroup}
+use Rattle.groups.specs.Weights.{Weighted, wholeLine, halfLine, wholeLines, weightsOf, weightedSum}
+use Rattle.groups.specs.Group.{isSystem, isOrder, orderCount}
+
+-- what holds of the number of every line in a list of weights
+unfoldable pub EveryLine : (ℕ → Type 0) → List Weighted → Type 0
+EveryLine P [] = Unit {0}
+EveryLine P (x ∷ xs) = P (x .line) × EveryLine P xs
+
+-- twice the weights, added up
+abbrev pub totalTwiceWeight : List Weighted → ℕ
+totalTwiceWeight xs = weightedSum (λ k. 1) xs
+
+pub every-append : (P : ℕ → Type 0) (xs ys : List Weighted) → EveryLine P xs → EveryLine P ys → EveryLine P (xs ++ ys)
+unfolding EveryLine
+every-append P [] ys p q = q
+every-append P (x ∷ xs) ys p q = (p .0, every-append P xs ys (p .1) q)
+
+pub every-wholeLines : (P : ℕ → Type 0) (first count : ℕ) → ((i : ℕ) → i < count → P (first + i)) → EveryLine P (wholeLines first count)
+unfolding EveryLine wholeLines tabulate
+every-wholeLines P first zero p = tt
+every-wholeLines P first (suc count) p =
+    every-append P (wholeLines first count) (wholeLine (first + count) ∷ [])
+    (every-wholeLines P first count (λ i h. p i (omega arith)))
+    (p count (omega arith), tt)
+
+-- what holds of every line number holds of those of any list
+pub every-of-all : (P : ℕ → Type 0) → ((k : ℕ) → P k) → (xs : List Weighted) → EveryLine P xs
+unfolding EveryLine
+every-of-all P p [] = tt
+every-of-all P p (x ∷ xs) = (p (x .line), every-of-all P p xs)
+
+module _ (f : ℕ → ℕ) where
+  pub weightedSum-append : (xs ys : List Weighted) → weightedSum f (xs ++ ys) ≡ weightedSum f xs + weightedSum f ys
+  unfolding weightedSum
+  weightedSum-append [] ys = omega arith
+  weightedSum-append (x ∷ xs) ys = rw (weightedSum-append xs ys) (omega arith)
+
+  -- lines between two with weight 1/2
+  pub weightedSum-edges : (first last : ℕ) (xs : List Weighted) → weightedSum f (halfLine first ∷ xs ++ (halfLine last ∷ [])) ≡ f first + weightedSum f xs + f last
+  unfolding weightedSum
+  weightedSum-edges first last xs = rw (weightedSum-append xs (halfLine last ∷ [])) (omega arith)
+
+  -- one more line with weight 1
+  pub weightedSum-wholeLines-suc : (first count : ℕ) → weightedSum f (wholeLines first (count + 1)) ≡ weightedSum f (wholeLines first count) + 2 * f (first + count)
+  unfolding weightedSum wholeLines tabulate
+  weightedSum-wholeLines-suc first count =
+      rw (add-one count, weightedSum-append (wholeLines first count) (wholeLine (first + count) ∷ [])) (omega arith)
+
+  -- fewer lines have no larger sum
+  pub weightedSum-wholeLines-le : (first i count : ℕ) → i ≤ count → weightedSum f (wholeLines first i) ≤ weightedSum f (wholeLines first count)
+  weightedSum-wholeLines-le first i zero h = let e : i ≡ 0 = omega arith in rw e (omega arith)
+  weightedSum-wholeLines-le first i (suc count) h =
+      ⊎-elim
+      (λ (e : i ≡ suc count). rw e (omega arith))
+      (λ (l : i < suc count).
+      rw (← add-one count)
+      (omega (arith, weightedSum-wholeLines-suc first count, weightedSum-wholeLines-le first i count (le-of-suc-le-suc l))))
+      (eq-or-lt-of-le h)
+
+  module _ (g : ℕ → ℕ) where
+    pub weightedSum-eq : (xs : List Weighted) → EveryLine (λ k. f k ≡ g k) xs → weightedSum f xs ≡ weightedSum g xs
+    unfolding weightedSum EveryLine
+    weightedSum-eq [] e = refl
+    weightedSum-eq (x ∷ xs) e = rw (e .0, weightedSum-eq xs (e .1))
+
+    pub weightedSum-le : (xs : List Weighted) → EveryLine (λ k. f k ≤ g k) xs → weightedSum f xs ≤ weightedSum g xs
+    unfolding weightedSum EveryLine
+    weightedSum-le [] h = omega arith
+    weightedSum-le (x ∷ xs) h =
+        omega (arith, mul-le-mul-left (x .twiceWeight) (h .0), weightedSum-le xs (h .1))
+
+  -- no line above m: the sum is at most the total weight times m
+  pub weightedSum-le-total : (m : ℕ) (xs : List Weighted) → EveryLine (λ k. f k ≤ m) xs → weightedSum f xs ≤ totalTwiceWeight xs * m
+  unfolding weightedSum EveryLine
+  weightedSum-le-total m [] h = omega arith
+  weightedSum-le-total m (x ∷ xs) h =
+      omega (arith, mul-le-mul-left (x .twiceWeight) (h .0), weightedSum-le-total m xs (h .1))
+
+-- a single line
+pub wholeLines-one : (k : ℕ) → wholeLines k 1 ≡ wholeLine k ∷ []
+unfolding wholeLines tabulate
+wholeLines-one k = let e : k + 0 ≡ k = omega arith in rw e
+
+pub total-wholeLines : (first count : ℕ) → totalTwiceWeight (wholeLines first count) ≡ 2 * count
+unfolding weightedSum wholeLines tabulate
+total-wholeLines first zero = refl
+total-wholeLines first (suc count) =
+    rw (weightedSum-append (λ k. 1) (wholeLines first count) (wholeLine (first + count) ∷ []), total-wholeLines first count) (omega arith)
+
+-- a system is 10 or 12
+pub system-cases : (n : ℕ) → isSystem n ≡ true → (n ≡ 10) ⊎ (n ≡ 12)
+unfolding isSystem
+system-cases n e = go (eqb n 10) (eqb n 12) refl refl e
+  where
+    go : (a b : Bool) → eqb n 10 ≡ a → eqb n 12 ≡ b → (a || b) ≡ true → (n ≡ 10) ⊎ (n ≡ 12)
+    go true b p q r = inl (eqb-true n 10 p)
+    go false b p q r = inr (eqb-true n 12 (q ∙ r))
+
+pub order-bounds : (h : ℕ) → isOrder h ≡ true → (1 ≤ h) × (h ≤ orderCount)
+unfolding isOrder
+order-bounds h e = go (ltb 0 h) refl e
+  where
+    go : (a : Bool) → ltb 0 h ≡ a → (a && leb h orderCount) ≡ true → (1 ≤ h) × (h ≤ orderCount)
+    go true p r = (ltb-true 0 h p, leb-true h orderCount r)
+    go false p r = absurd (true≢false (sym r))
+
+-- what the counts of lines in a system's groups rest on
+pub record SystemBounds (n : ℕ) : Type 0 where
+  pub least : 10 ≤ n
+  pub most : n ≤ 12
+  pub even : n / 2 + n / 2 ≡ n
+
+pub system-bounds : (n : ℕ) → isSystem n ≡ true → SystemBounds n
+system-bounds n e =
+    ⊎-elim
+    (λ (p : n ≡ 10). record { least = omega arith; most = omega arith; even = omega arith })
+    (λ (p : n ≡ 12). record { least = omega arith; most = omega arith; even = omega arith })
+    (system-cases n e)
+
+-- the line n×h, from which the lines of an order are counted
+pub record CentreBounds (n h : ℕ) : Type 0 where
+  pub least : n ≤ n * h
+  pub most : n * h ≤ 12 * orderCount
+
+pub centre-bounds : (n h : ℕ) → isSystem n ≡ true → isOrder h ≡ true → CentreBounds n h
+centre-bounds n h e o =
+    let s = system-bounds n e in
+    let b = order-bounds h o in
+    record {
+      least = omega (arith, mul-le-mul-left n (b .0));
+      most = omega (arith, mul-le-mul (s .most) (b .1));
+    }
+
+-- no kind has more than twice the weights of a harmonic group at 12 cycles
+abbrev pub largestTotal : ℕ
+largestTotal = 24
+
+pub weights-total-le : (kind : Kind) (n h : ℕ) → isSystem n ≡ true → totalTwiceWeight (weightsOf kind n h) ≤ largestTotal
+unfolding weightsOf weightedSum
+weights-total-le kind n h e = go kind (system-bounds n e)
+  where
+    go : (kind : Kind) → SystemBounds n → totalTwiceWeight (weightsOf kind n h) ≤ largestTotal
+    go Component s = omega arith
+    go HarmonicGroup s = simp (weightedSum-append, total-wholeLines) (omega arith)
+    go HarmonicSubgroup s = simp total-wholeLines (omega arith)
+    go InterharmonicGroup s = simp total-wholeLines (omega arith)
+    go InterharmonicCentredSubgroup s = simp total-wholeLines (omega arith)
+
+-- the lines of every kind are among the 512
+pub weights-line-lt : (kind : Kind) (n h : ℕ) → isSystem n ≡ true → isOrder h ≡ true → EveryLine (λ k. k < lineCount) (weightsOf kind n h)
+unfolding weightsOf EveryLine
+weights-line-lt kind n h e o = go kind (system-bounds n e) (centre-bounds n h e o)
+  where
+    go : (kind : Kind) → SystemBounds n → CentreBounds n h → EveryLine (λ k. k < lineCount) (weightsOf kind n h)
+    go Component s b = (omega arith, tt)
+    go HarmonicGroup s b =
+        let between = wholeLines (n * h - n / 2 + 1) (n - 1) in
+        let last = halfLine (n * h + n / 2) ∷ [] in (
+          omega arith,
+          every-append _ between last (every-wholeLines _ _ _ (λ i l. omega arith)) (omega arith, tt),
+        )
+    go HarmonicSubgroup s b = every-wholeLines _ _ _ (λ i l. omega arith)
+    go InterharmonicGroup s b = every-wholeLines _ _ _ (λ i l. omega arith)
+    go InterharmonicCentredSubgroup s b = every-wholeLines _ _ _ (λ i l. omega arith)

@@ -1,0 +1,16 @@
+-- `groups::group::is_system` meets its contract. Assumes nothing.
+use borrow.Author.Tests.{eq-eqb, ne-eqb}
+use Rattle.groups.specs.Group.{isSystem}
+use Rattle.groups.proofs.group.is_system.Statement.{statement}
+use Rattle.groups.proofs.group.is_system.Tie as tie
+
+returns : tie.Need-returns
+unfolding isSystem
+returns c = simp (eq-eqb _ _ (c .if1 .taken))
+
+returns-2 : tie.Need-returns-2
+unfolding isSystem
+returns-2 c = simp (ne-eqb _ _ (c .if1 .left))
+
+pub is-system-spec : {M : Type 1} → statement M
+is-system-spec = tie.close (tie.spec returns returns-2)

@@ -1,0 +1,77 @@
+-- How large the sums and the lines of a window in range are: a sum is below 2^58, a rounded sum at most 2^29, a line at most 2^59.
+-- A place past the window's end reads as 0, which is in range too, so the window may have any length.
+-- Assumes nothing.
+use mathlib.Core.Bool.{false}
+use mathlib.Core.List.{List}
+use mathlib.Core.Path.{_≡_}
+use Prim.Native.Nat.{ℕ, _+_, _*_, _^_, _≤_, _<_}
+use native.Mathlib.Nat.{le-refl, le-trans, mul-le-mul, mul-le-mul-right, add-le-add}
+use native.Mathlib.Decide.{decLt}
+use native.Mathlib.Omega.{arith}
+use borrow.Author.Tests.{ltb-false}
+use lib.IntN.{ℤ, pos, natAbs, _*ℤ_}
+use lib.ListN.{getD, length, List·getD-eq-default}
+use Rattle.algebra.specs.Lists.{anyOf}
+use Rattle.algebra.specs.Sums.{sumTo}
+use Rattle.algebra.proofs.Integer.{natAbs-*ℤ}
+use Rattle.algebra.proofs.Lists.{anyOf-none}
+use Rattle.algebra.proofs.Rounding.{natAbs-nearestℤ-le, nearest-le}
+use Rattle.algebra.proofs.SumTo.{sumTo-natAbs-le}
+use Rattle.sine.specs.Wave.{tableSine, tableCosine, fullScale}
+use Rattle.sine.proofs.Wave.{tableSine-le, tableCosine-le}
+use Rattle.spectrum.specs.Line.{windowLength, lineSum, sumScale, roundedSum, square, lineOf}
+use Rattle.spectrum.specs.Spectrum.{largestSample, outOfRange}
+
+-- summand j of the sum of line k
+abbrev pub summand : (ℕ → ℤ) → List ℤ → ℕ → ℕ → ℤ
+summand wave window k j = getD window j (pos 0) *ℤ wave (j * k)
+
+-- the table's sine a phase ahead: with a quarter turn, the table's cosine
+abbrev pub shiftedSine : ℕ → ℕ → ℤ
+shiftedSine phase i = tableSine (i + phase)
+
+pub shiftedSine-le : (phase i : ℕ) → natAbs (shiftedSine phase i) ≤ fullScale
+shiftedSine-le phase i = tableSine-le (i + phase)
+
+pub square-le : (x : ℤ) → natAbs x ≤ 2 ^ 29 → square x ≤ 2 ^ 58
+unfolding square
+square-le x h = mul-le-mul h h
+
+module _ (window : List ℤ) (in-range : anyOf outOfRange window ≡ false) where
+  pub sample-le : (j : ℕ) → natAbs (getD window j (pos 0)) ≤ largestSample
+  unfolding outOfRange
+  sample-le j = go (decLt j (length window))
+    where
+      go : Dec (j < length window) → natAbs (getD window j (pos 0)) ≤ largestSample
+      go (yes h) =
+          ltb-false largestSample (natAbs (getD window j (pos 0))) (anyOf-none outOfRange window j (pos 0) in-range h)
+      go (no f) = rw (List·getD-eq-default window (pos 0) {n = j} (omega arith)) (omega arith)
+
+  module _ (wave : ℕ → ℤ) (wave-le : (i : ℕ) → natAbs (wave i) ≤ fullScale) where
+    -- the first n summands
+    pub partialSum-le : (k n : ℕ) → n ≤ windowLength → natAbs (sumTo n (summand wave window k)) < 2 ^ 58
+    partialSum-le k n h =
+        omega (
+          arith,
+          sumTo-natAbs-le n (largestSample * fullScale) (summand wave window k)
+              (λ j l. rw natAbs-*ℤ (mul-le-mul (sample-le j) (wave-le (j * k)))),
+          mul-le-mul-right (largestSample * fullScale) h,
+        )
+
+    pub lineSum-le : (k : ℕ) → natAbs (lineSum wave window k) < 2 ^ 58
+    unfolding lineSum
+    lineSum-le k = partialSum-le k windowLength (le-refl windowLength)
+
+    pub roundedSum-le : (k : ℕ) → natAbs (roundedSum wave window k) ≤ 2 ^ 29
+    unfolding roundedSum
+    roundedSum-le k =
+        le-trans (natAbs-nearestℤ-le (lineSum wave window k) sumScale (omega arith))
+        (nearest-le (2 ^ 29) sumScale (omega arith) (omega (arith, lineSum-le k)))
+
+    squaredSum-le : (k : ℕ) → square (roundedSum wave window k) ≤ 2 ^ 58
+    squaredSum-le k = square-le (roundedSum wave window k) (roundedSum-le k)
+
+  pub line-le : (k : ℕ) → lineOf window k ≤ 2 ^ 59
+  unfolding lineOf
+  line-le k =
+      add-le-add (squaredSum-le tableCosine tableCosine-le k) (squaredSum-le tableSine tableSine-le k)

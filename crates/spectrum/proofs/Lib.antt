@@ -1,0 +1,7 @@
+-- The theorems of the spectrum.
+pub mod Signed
+pub mod Bounds
+pub mod Lines
+pub mod Distance
+pub mod Worked
+pub mod Pulse
