@@ -1,16 +1,15 @@
 -- The spectrum by its lines: there are 512 of them, each is its definition, and in a window in range none is above 2^59.
 -- Assumes nothing.
-use mathlib.Core.Bool.{Bool, false}
-use mathlib.Core.List.{List, [], _∷_}
-use mathlib.Core.Path.{_≡_, refl}
-use Prim.Native.Nat.{ℕ, suc, _^_, _<_}
-use native.Mathlib.Omega.{arith}
+use mathlib.Core.Bool.{false}
+use mathlib.Core.List.{List}
+use mathlib.Core.Path.{_≡_}
+use Prim.Native.Nat.{ℕ, _^_, _<_}
 use borrow.Author.Tests.{le-ltb}
 use lib.Dec.{ltb}
 use lib.IntN.{ℤ}
 use lib.ListN.{length, getD}
 use Rattle.algebra.specs.Lists.{anyOf}
-use Rattle.algebra.proofs.Lists.{length-tabulate, getD-tabulate}
+use Rattle.algebra.proofs.Lists.{length-tabulate, getD-tabulate, anyOf-false}
 use Rattle.spectrum.specs.Line.{lineCount, lineOf, linesOf}
 use Rattle.spectrum.specs.Spectrum.{outOfRange}
 use Rattle.spectrum.proofs.Bounds.{line-le}
@@ -23,15 +22,8 @@ pub getD-linesOf : (window : List ℤ) (k : ℕ) → k < lineCount → getD (lin
 unfolding linesOf
 getD-linesOf window k h = getD-tabulate lineCount (lineOf window) k 0 h
 
--- a test that passes at no place passes nowhere
-anyOf-nowhere : (passes : ℕ → Bool) (l : List ℕ) → ((i : ℕ) → i < length l → passes (getD l i 0) ≡ false) → anyOf passes l ≡ false
-unfolding anyOf
-anyOf-nowhere passes [] h = refl
-anyOf-nowhere passes (x ∷ xs) h =
-    rw (h 0 (omega arith)) (anyOf-nowhere passes xs (λ i l. h (suc i) (omega arith)))
-
--- so a spectrum is never refused as too large
+-- a spectrum is never refused as too large
 pub no-line-too-large : (window : List ℤ) → anyOf outOfRange window ≡ false → anyOf (ltb (2 ^ 59)) (linesOf window) ≡ false
 no-line-too-large window in-range =
-    anyOf-nowhere (ltb (2 ^ 59)) (linesOf window) λ k h.
+    anyOf-false (ltb (2 ^ 59)) (linesOf window) 0 λ k h.
     rw (getD-linesOf window k (rw (length-linesOf window) at h)) (le-ltb (2 ^ 59) (lineOf window k) (line-le window in-range k))
