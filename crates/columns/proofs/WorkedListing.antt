@@ -1,0 +1,22 @@
+-- Worked listings, computed: document 01's own, where all values are zero, and one with the least and the greatest values; and the line for a refusal.
+use mathlib.Core.List.{[], _∷_, _++_}
+use mathlib.Core.Path.{_≡_, refl}
+use lib.ListN.{replicate}
+use Rattle.columns.specs.Text.{bytesOf, rightJustified}
+use Rattle.columns.specs.Column.{decimalWithin, decimalText, numberText, columnText}
+use Rattle.columns.specs.Listing.{header, orderLine, leftOut, orderText, ordersText, listingText, refusalLine}
+
+zeros : listingText (replicate 40 0) (replicate 40 0) (replicate 40 0)
+    ≡ bytesOf "  h       group    subgroup    smoothed\n  1           0           0           0\n"
+unfolding listingText ordersText orderText leftOut orderLine header columnText rightJustified numberText decimalText decimalWithin bytesOf
+zeros = refl
+
+-- of the orders 2, 3 and 40 one value is not zero
+edges : listingText (1 ∷ 0 ∷ 4294967295 ∷ replicate 37 0) (0 ∷ 8944 ∷ replicate 38 0) (replicate 39 0 ++ (10 ∷ []))
+    ≡ bytesOf "  h       group    subgroup    smoothed\n  1           1           0           0\n  2           0        8944           0\n  3  4294967295           0           0\n 40           0           0          10\n"
+unfolding listingText ordersText orderText leftOut orderLine header columnText rightJustified numberText decimalText decimalWithin bytesOf
+edges = refl
+
+refused : refusalLine 13 ≡ bytesOf "refused 13\n"
+unfolding refusalLine columnText rightJustified numberText decimalText decimalWithin bytesOf
+refused = refl

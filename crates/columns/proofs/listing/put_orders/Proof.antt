@@ -1,0 +1,90 @@
+-- `columns::listing::put_orders` meets its contract. The loop's invariant: the lines of the first `done` orders are put, and none took more than 40 bytes.
+use mathlib.Core.Path.{_≡_}
+use Prim.Native.Nat.{_+_, _-_, _*_, _≤_}
+use native.Mathlib.Numerals.{add-one}
+use native.Mathlib.Omega.{arith}
+use Rattle.columns.specs.Text.{Put}
+use Rattle.columns.specs.Listing.{orders, lineLength, ordersText}
+use Rattle.columns.proofs.Puts.{put-none, put-then, put-length}
+use Rattle.columns.proofs.listing.put_orders.Statement.{statement}
+use Rattle.columns.proofs.listing.put_orders.Tie as tie
+
+abbrev Inv-loop : tie.InvT-loop
+Inv-loop buffer₀ start group subgroup smoothed at₀ done₀ buffer at done =
+    (done ≤ orders) × (at ≤ start + lineLength * done) × Put buffer₀ start (ordersText done group subgroup smoothed) at buffer
+
+abbrev μ-loop : tie.MeasureT-loop
+μ-loop buffer₀ start group subgroup smoothed at₀ done₀ buffer at done = orders - done
+
+loop-holds : tie.Need-loop-holds Inv-loop μ-loop
+unfolding ordersText
+loop-holds c = (omega arith, omega arith, put-none (c .before .args .buffer .now) (c .before .args .start))
+
+add-put-order : tie.Need-add-put-order Inv-loop μ-loop
+add-put-order c = omega arith
+
+mul-put-order : tie.Need-mul-put-order Inv-loop μ-loop
+mul-put-order c = omega arith
+
+element-copy-out-put-order : tie.Need-element-copy-out-put-order Inv-loop μ-loop
+element-copy-out-put-order c = omega arith
+
+mul-put-order-2 : tie.Need-mul-put-order-2 Inv-loop μ-loop
+mul-put-order-2 c = omega arith
+
+element-copy-out-put-order-2 : tie.Need-element-copy-out-put-order-2 Inv-loop μ-loop
+element-copy-out-put-order-2 c = omega arith
+
+mul-put-order-3 : tie.Need-mul-put-order-3 Inv-loop μ-loop
+mul-put-order-3 c = omega arith
+
+element-copy-out-put-order-3 : tie.Need-element-copy-out-put-order-3 Inv-loop μ-loop
+element-copy-out-put-order-3 c = omega arith
+
+put-order-requires : tie.Need-put-order-requires Inv-loop μ-loop
+put-order-requires c κs =
+    let l = c .before .before .before .before .before .loop in
+    (omega arith, omega (arith, put-length (l .inv .2)))
+
+add-done : tie.Need-add-done Inv-loop μ-loop
+add-done c = omega arith
+
+loop-less : tie.Need-loop-less Inv-loop μ-loop
+loop-less c = omega arith
+
+loop-again : tie.Need-loop-again Inv-loop μ-loop
+unfolding ordersText
+loop-again c =
+    let l = c .before .before .before .before .before .before .before .before .loop in
+    let order = c .before .before .put-order .ensures in
+    (omega arith, omega (arith, order .1), rw add-one (put-then (l .inv .2) (rw add-one at (order .0))))
+
+same-length : tie.Need-same-length Inv-loop μ-loop
+same-length c = put-length (c .before .loop .inv .2)
+
+returns : tie.Need-returns Inv-loop μ-loop
+returns c =
+    let l = c .before .loop in
+    let all : l .done ≡ orders = omega arith in
+    (rw all at (l .inv .2), omega arith)
+
+pub put-orders-spec : {M : Type 1} → statement M
+put-orders-spec =
+    tie.close
+    (tie.spec
+    Inv-loop
+    μ-loop
+    loop-holds
+    add-put-order
+    mul-put-order
+    element-copy-out-put-order
+    mul-put-order-2
+    element-copy-out-put-order-2
+    mul-put-order-3
+    element-copy-out-put-order-3
+    put-order-requires
+    add-done
+    loop-less
+    loop-again
+    same-length
+    returns)

@@ -1,0 +1,65 @@
+-- `columns::listing::put_refusal_line` meets its contract.
+use mathlib.Core.Path.{_≡_, refl}
+use Prim.Native.Nat.{_+_}
+use native.Mathlib.Omega.{arith}
+use lib.ListN.{set}
+use Rattle.columns.specs.Text.{newline, bytesOf, Put}
+use Rattle.columns.specs.Listing.{refusalWidth, refusalLine}
+use Rattle.columns.proofs.Column.{length-of-text}
+use Rattle.columns.proofs.Puts.{put-byte, put-then, put-length, put-copy, put-whole}
+use borrow.Author.Needs.{needs}
+use Rattle.columns.proofs.listing.put_refusal_line.Statement.{statement}
+use Rattle.columns.proofs.listing.put_refusal_line.Tie as tie
+
+slice-aggregate-copy : tie.Need-slice-aggregate-copy
+slice-aggregate-copy c = search needs
+
+copy-requires : tie.Need-copy-requires
+copy-requires c κs = search needs
+
+put-column-requires : tie.Need-put-column-requires
+put-column-requires c κs = search needs
+
+-- the word takes 7 bytes, and the column stands after it
+word-put : (c : tie.After-copy) → Put (c .before .before .before .before .args .buffer .now) 0 (bytesOf "refused") (c .copy .result) (c .copy .last .1 .0)
+unfolding bytesOf
+word-put c =
+    let buffer = c .before .before .before .before .args .buffer .now in
+    rw (c .copy .ensures .0, c .copy .ensures .1) (put-copy buffer (bytesOf "refused") 7 refl (omega arith))
+
+column-end : (c : tie.After-slice-known3) → c .before .before .put-column .result ≡ 7 + refusalWidth
+column-end c =
+    let copied = c .before .before .before .before .before .before in
+    omega (arith, c .before .before .put-column .ensures .place, length-of-text refusalWidth _ (copied .before .before .before .before .pre .1), copied .copy .ensures .0)
+
+slice-write-buffer : tie.Need-slice-write-buffer
+slice-write-buffer c =
+    let copied = c .before .before .before .before .before .before in
+    omega (arith, column-end c, put-length (c .before .before .put-column .ensures), put-length (word-put copied))
+
+line-put : (c : tie.After-slice-known3)
+    → Put (c .before .before .before .before .before .before .before .before .before .before .args .buffer .now) 0
+    (refusalLine (c .before .before .before .before .before .before .before .before .before .before .args .refusal))
+    (c .before .before .put-column .result + 1) (set (c .before .before .put-column .last .0) (c .before .before .put-column .result) newline)
+unfolding refusalLine
+line-put c =
+    let column = c .before .before .put-column in
+    let copied = c .before .before .before .before .before .before in
+    put-then (put-then (word-put copied) (column .ensures)) (put-byte (column .last .0) (column .result) newline)
+
+returns : tie.Need-returns
+returns c = put-whole (line-put c) (omega (arith, column-end c, c .before .before .before .before .before .before .before .before .before .before .pre .0))
+
+same-length : tie.Need-same-length
+same-length c = put-length (line-put c)
+
+pub put-refusal-line-spec : {M : Type 1} → statement M
+put-refusal-line-spec =
+    tie.close
+    (tie.spec
+    slice-aggregate-copy
+    copy-requires
+    put-column-requires
+    slice-write-buffer
+    same-length
+    returns)

@@ -1,0 +1,54 @@
+-- `columns::writing::fill_blanks` meets its contract. The loop's invariant: the first `at` bytes are blanks, the others as they were.
+use mathlib.Core.List.{List, _++_, append-nil}
+use mathlib.Core.Path.{_≡_, refl, ap, _∙_}
+use Prim.Native.Nat.{ℕ, _≤_, _-_}
+use native.Mathlib.Omega.{arith}
+use borrow.Author.Fill.{fill-none, fill-more}
+use lib.ListN.{length, set, drop, replicate, length-set}
+use lib.Seq.{drop-length}
+use Rattle.columns.specs.Text.{blank}
+use Rattle.columns.proofs.writing.fill_blanks.Statement.{statement}
+use Rattle.columns.proofs.writing.fill_blanks.Tie as tie
+
+abbrev Inv-loop : tie.InvT-loop
+Inv-loop buffer₀ at₀ buffer at =
+    (at ≤ length buffer₀) × (length buffer ≡ length buffer₀) × (buffer ≡ replicate at blank ++ drop at buffer₀)
+
+abbrev μ-loop : tie.MeasureT-loop
+μ-loop buffer₀ at₀ buffer at = length buffer₀ - at
+
+loop-holds : tie.Need-loop-holds Inv-loop μ-loop
+loop-holds c = (omega arith, refl, fill-none (c .args .buffer .now) blank)
+
+slice-write-buffer : tie.Need-slice-write-buffer Inv-loop μ-loop
+slice-write-buffer c = omega arith
+
+add-at : tie.Need-add-at Inv-loop μ-loop
+add-at c = omega arith
+
+loop-less : tie.Need-loop-less Inv-loop μ-loop
+loop-less c = omega arith
+
+loop-again : tie.Need-loop-again Inv-loop μ-loop
+loop-again c =
+    let l = c .before .loop in
+    let buffer₀ = c .before .before .args .buffer .now in (
+      omega arith,
+      simp length-set (l .inv .1),
+      ap (λ (b : List ℕ). set b (l .at) blank) (l .inv .2) ∙ fill-more (l .at) blank buffer₀ (omega arith),
+    )
+
+same-length : tie.Need-same-length Inv-loop μ-loop
+same-length c = c .before .loop .inv .1
+
+returns : tie.Need-returns Inv-loop μ-loop
+returns c =
+    let l = c .before .loop in
+    let buffer₀ = c .before .before .args .buffer .now in
+    let all : l .at ≡ length buffer₀ = omega arith in
+    l .inv .2 ∙ rw (all, drop-length buffer₀, append-nil)
+
+pub fill-blanks-spec : {M : Type 1} → statement M
+fill-blanks-spec =
+    tie.close
+    (tie.spec Inv-loop μ-loop loop-holds slice-write-buffer add-at loop-less loop-again same-length returns)

@@ -1,0 +1,62 @@
+-- What the calls of columns and of the listing answer: the rows "column read", "column write" and "listing" of document 01's refusal table.
+use mathlib.Core.Bool.{cond, not}
+use mathlib.Core.List.{List, [], _∷_, _++_}
+use mathlib.Core.Option.{Option, none, some}
+use Prim.Native.Nat.{ℕ}
+use lib.Dec.{eqb, ltb}
+use lib.IntN.{ℤ, pos}
+use lib.ListN.{length, drop}
+use Rattle.refusals.specs.Numbers.{noRefusal, notAColumn, wrongBufferLength}
+use Rattle.refusals.specs.Answers.{firstFault, unlessRefused}
+use Rattle.columns.specs.Column.{columnText, columnNumber, fitsColumn}
+use Rattle.columns.specs.Listing.{listingText, refusalWidth, refusalLineLength, refusalLine}
+use Rattle.columns.specs.declared.Number.{Number}
+
+-- the width of a column that is read or written alone
+abbrev pub columnWidth : ℕ
+columnWidth = 8
+
+-- the bytes that a listing may need: its header and the lines of 40 orders
+abbrev pub listingRoom : ℕ
+listingRoom = 1640
+
+-- a number, or the refusal of what is none
+abbrev pub readingOf : Option ℤ → Number
+readingOf none = record { refusal = notAColumn; value = pos 0 }
+readingOf (some z) = record { refusal = noRefusal; value = z }
+
+-- "13 text not 8 bytes of the form"
+unfoldable pub columnReadOf : List ℕ → Number
+columnReadOf text = readingOf (cond (eqb (length text) columnWidth) (columnNumber text) none)
+
+-- "14 buffer not 8 bytes; 13 number wider than 8", for a text of n bytes that has a column of w bytes
+unfoldable pub writeFault : ℕ → ℕ → List ℕ → ℤ → ℕ
+writeFault n w buffer number =
+    firstFault
+    ((not (eqb (length buffer) n), wrongBufferLength) ∷ (not (fitsColumn w number), notAColumn) ∷ [])
+
+abbrev pub columnWriteFault : List ℕ → ℤ → ℕ
+columnWriteFault buffer number = writeFault columnWidth columnWidth buffer number
+
+-- what the buffer holds after a column is written
+abbrev pub columnWritten : List ℕ → ℤ → List ℕ
+columnWritten buffer number =
+    unlessRefused (columnWriteFault buffer number) (columnText columnWidth number) buffer
+
+-- the same of the line for a refusal
+abbrev pub refusalLineFault : List ℕ → ℕ → ℕ
+refusalLineFault buffer refusal = writeFault refusalLineLength refusalWidth buffer (pos refusal)
+
+abbrev pub refusalLineWritten : List ℕ → ℕ → List ℕ
+refusalLineWritten buffer refusal =
+    unlessRefused (refusalLineFault buffer refusal) (refusalLine refusal) buffer
+
+-- "14 buffer shorter than 1,640 bytes"
+unfoldable pub listingFault : List ℕ → ℕ
+listingFault buffer = firstFault ((ltb (length buffer) listingRoom, wrongBufferLength) ∷ [])
+
+-- what the buffer holds after a listing: "bytes after them stay"
+unfoldable pub listingWritten : List ℕ → List ℕ → List ℕ → List ℕ → List ℕ
+listingWritten buffer group subgroup smoothed =
+    let text = listingText group subgroup smoothed in
+    unlessRefused (listingFault buffer) (text ++ drop (length text) buffer) buffer

@@ -1,0 +1,27 @@
+// Number columns of any width and the listing of the 40 orders. A text is a slice of bytes that the
+// caller lends.
+mod listing;
+mod reading;
+mod writing;
+
+pub use listing::fill_listing;
+pub use listing::fill_refusal_line;
+pub use reading::read_column;
+pub use writing::write_column;
+
+// The width of a column that is read or written alone.
+const COLUMN_WIDTH: usize = 8;
+
+const BLANK: u8 = 32;
+
+const MINUS: u8 = 45;
+
+const DIGIT_ZERO: u8 = 48;
+
+const NEWLINE: u8 = 10;
+
+// A number that was read, or a refusal's number with 0.
+pub struct Number {
+    pub refusal: u32,
+    pub value: i64,
+}
