@@ -1,0 +1,9 @@
+-- The theorem of demand 3.
+pub mod GroupDistance
+pub mod Books
+pub mod AcceptedCalls
+pub mod WorkedRows
+pub mod Verdicts
+pub mod Demand3
+pub mod BooksExist
+pub mod WorkedExample

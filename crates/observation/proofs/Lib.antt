@@ -1,0 +1,7 @@
+-- The theorems of the observation record.
+pub mod Filling
+pub mod NoneAbove
+pub mod Smoothed
+pub mod SoundRecord
+pub mod RecordBooks
+pub mod CallList

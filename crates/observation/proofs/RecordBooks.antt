@@ -1,0 +1,88 @@
+-- The books of a record: what a row and a list of calls do to the book of each order, and to the record's system.
+-- The record after a list of calls holds, for each order, the reported book fed at the same calls. Assumes nothing.
+use mathlib.Core.Path.{_≡_, refl, _∙_, ap}
+use mathlib.Core.Bool.{Bool, true, false, cond}
+use mathlib.Core.List.{List, [], _∷_}
+use Prim.Native.Nat.{ℕ, _<_}
+use lib.ListN.{getD, getD-replicate}
+use Rattle.algebra.proofs.Lists.{getD-tabulate}
+use Rattle.groups.specs.Group.{isSystem, orderCount}
+use Rattle.observation.specs.declared.Row.{Row}
+use Rattle.observation.specs.declared.Observation.{Observation}
+use Rattle.observation.specs.Book.{Book, emptyBook, bookStep}
+use Rattle.observation.specs.Smoothing.{reported}
+use Rattle.observation.specs.Soundness.{isSound}
+use Rattle.observation.specs.Calls.{emptyRecord, freshAnswer, bookAt, nextBook, withRow, addRowRefusal, addRowAnswer}
+use Rattle.observation.specs.CallList.{recordAfter}
+use Rattle.observation.specs.BookCalls.{accepts, bookCall, bookAfter, ownValues, AcceptedFit}
+use Rattle.observation.proofs.SoundRecord.{answer-of-sound, answer-sound, record-after-sound, empty-record-sound, fresh-of-known}
+
+-- the record with a row added holds the next book of each order
+pub book-at-with-row : (o : Observation) (row : Row) (i : ℕ) → i < orderCount → bookAt (withRow o row) i ≡ nextBook o row i
+unfolding bookAt withRow nextBook bookStep
+book-at-with-row o row i inside =
+    rw (
+      getD-tabulate orderCount (λ j. nextBook o row j .smoothed) i 0 inside,
+      getD-tabulate orderCount (λ j. nextBook o row j .sum) i 0 inside,
+      getD-tabulate orderCount (λ j. nextBook o row j .peak) i 0 inside,
+    )
+
+-- an empty record holds empty books
+pub book-at-empty : (system i : ℕ) → i < orderCount → bookAt (emptyRecord system) i ≡ emptyBook reported
+unfolding bookAt emptyRecord emptyBook
+book-at-empty system i inside = rw (getD-replicate {A = ℕ} orderCount i 0 0 inside)
+
+-- no call changes the system
+pub answer-system : (o : Observation) (row : Row) → addRowAnswer o row .observation .system ≡ o .system
+unfolding addRowAnswer withRow
+answer-system o row = either (lib.Dec.eqb (addRowRefusal o row) 0)
+  where
+    either : (worked : Bool) → cond worked (withRow o row) o .system ≡ o .system
+    either true = refl
+    either false = refl
+
+pub record-after-system : (o : Observation) (rows : List Row) → recordAfter o rows .system ≡ o .system
+unfolding recordAfter
+record-after-system o [] = refl
+record-after-system o (row ∷ rows) = record-after-system (addRowAnswer o row .observation) rows ∙ answer-system o row
+
+-- a call feeds the book of each order the row's own value, or changes nothing where the row is refused
+pub book-at-answer : (o : Observation) (row : Row) (i : ℕ) → i < orderCount → isSound o ≡ true → bookAt (addRowAnswer o row .observation) i ≡ bookCall reported (o .system) (bookAt o i) (record { row = row; value = getD (row .values) i 0 })
+unfolding bookCall bookAt nextBook
+book-at-answer o row i inside sound =
+    ap (λ (after : Observation). bookAt after i) (answer-of-sound o row sound) ∙ either (accepts (o .system) (o .windows) row)
+  where
+    either : (taken : Bool) → bookAt (cond taken (withRow o row) o) i ≡ cond taken (nextBook o row i) (bookAt o i)
+    either true = book-at-with-row o row i inside
+    either false = refl
+
+-- the books after a list of calls, from any sound record
+pub book-at-record-after : (o : Observation) (rows : List Row) (i : ℕ) → i < orderCount → isSound o ≡ true → AcceptedFit (o .system) (o .windows) rows → bookAt (recordAfter o rows) i ≡ bookAfter reported (o .system) (bookAt o i) (ownValues i rows)
+unfolding recordAfter bookAfter ownValues
+book-at-record-after o [] i inside sound fits = refl
+book-at-record-after o (row ∷ rows) i inside sound fits =
+    let after = addRowAnswer o row .observation in
+    let kept = answer-sound o row rows sound fits in
+    book-at-record-after after rows i inside (kept .0) (kept .1) ∙
+    (ap (λ (system : ℕ). bookAfter reported system (bookAt after i) (ownValues i rows)) (answer-system o row) ∙
+    ap
+    (λ (book : Book reported). bookAfter reported (o .system) book (ownValues i rows))
+    (book-at-answer o row i inside sound))
+
+-- "The first gets a fresh record of system 10 or 12": the record after the list has its system, and the reported book of each order
+pub fresh-record-after-system : (system : ℕ) (rows : List Row) → isSystem system ≡ true → recordAfter (freshAnswer system .observation) rows .system ≡ system
+unfolding emptyRecord
+fresh-record-after-system system rows known =
+    record-after-system (freshAnswer system .observation) rows ∙ ap (λ (o : Observation). o .system) (fresh-of-known system known)
+
+pub fresh-record-after-sound : (system : ℕ) (rows : List Row) → isSystem system ≡ true → AcceptedFit system 0 rows → isSound (recordAfter (freshAnswer system .observation) rows) ≡ true
+unfolding emptyRecord
+fresh-record-after-sound system rows known fits =
+    rw (fresh-of-known system known) (record-after-sound (emptyRecord system) rows (empty-record-sound system known) fits)
+
+pub fresh-record-after-books : (system : ℕ) (rows : List Row) (i : ℕ) → isSystem system ≡ true → i < orderCount → AcceptedFit system 0 rows → bookAt (recordAfter (freshAnswer system .observation) rows) i ≡ bookAfter reported system (emptyBook reported) (ownValues i rows)
+unfolding emptyRecord
+fresh-record-after-books system rows i known inside fits =
+    rw (fresh-of-known system known)
+    (book-at-record-after (emptyRecord system) rows i inside (empty-record-sound system known) fits ∙
+    ap (λ (book : Book reported). bookAfter reported system book (ownValues i rows)) (book-at-empty system i inside))

@@ -1,0 +1,54 @@
+-- A book over a list of add row calls (document 01, "Exact book"): it is fed the row of each call and, for a row that it accepts, a value.
+use mathlib.Core.Bool.{Bool, cond}
+use mathlib.Core.List.{List, [], _∷_, map}
+use Prim.Native.Nat.{ℕ, _+_, _≤_}
+use lib.Dec.{eqb}
+use lib.ListN.{getD}
+use Rattle.refusals.specs.Numbers.{noRefusal}
+use Rattle.refusals.specs.Answers.{firstFault}
+use Rattle.observation.specs.declared.Row.{Row}
+use Rattle.observation.specs.Book.{Numbers, Book, bookStep}
+use Rattle.observation.specs.Smoothing.{reported}
+use Rattle.observation.specs.Soundness.{largestValue}
+use Rattle.observation.specs.Calls.{rowChecks}
+
+-- a row that a book with this system and count accepts
+unfoldable pub accepts : ℕ → ℕ → Row → Bool
+accepts system count row = eqb (firstFault (rowChecks system count row)) noRefusal
+
+-- each call of a list whose row a book with this system and count accepts meets a condition
+module _ {A : Type 0} (rowOf : A → Row) (condition : A → Type 0) (system : ℕ) where
+  unfoldable pub EachAccepted : ℕ → List A → Type 0
+  EachAccepted count [] = Unit {0}
+  EachAccepted count (call ∷ calls) =
+      cond
+      (accepts system count (rowOf call))
+      (condition call × EachAccepted (count + 1) calls)
+      (EachAccepted count calls)
+
+module _ (𝓝 : Numbers) where
+  -- what a book is fed at a call: the row and, where it accepts the row, a value
+  pub record Fed : Type 0 where
+    pub row : Row
+    pub value : 𝓝 .Value
+
+  -- a refused row changes nothing
+  unfoldable pub bookCall : ℕ → Book 𝓝 → Fed → Book 𝓝
+  bookCall system book call =
+      cond (accepts system (book .count) (call .row)) (bookStep 𝓝 book (call .value)) book
+
+  unfoldable pub bookAfter : ℕ → Book 𝓝 → List Fed → Book 𝓝
+  bookAfter system book [] = book
+  bookAfter system book (call ∷ calls) = bookAfter system (bookCall system book call) calls
+
+-- the reported book of the order at a place is fed the row's own value
+unfoldable pub ownValues : ℕ → List Row → List (Fed reported)
+ownValues i rows = map (λ row. record { row = row; value = getD (row .values) i 0 }) rows
+
+-- "40 values of 32 bits without sign"
+unfoldable pub ValuesFit : Row → Type 0
+ValuesFit row = (i : ℕ) → getD (row .values) i 0 ≤ largestValue
+
+-- each row that a book with this system and count accepts holds such values
+abbrev pub AcceptedFit : ℕ → ℕ → List Row → Type 0
+AcceptedFit = EachAccepted (λ row. row) ValuesFit

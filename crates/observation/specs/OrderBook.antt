@@ -1,0 +1,7 @@
+-- The code's book of one order as a reported book.
+use Rattle.observation.specs.declared.book.OrderBook.{OrderBook}
+use Rattle.observation.specs.Book.{Book}
+use Rattle.observation.specs.Smoothing.{reported}
+
+abbrev pub reportedBook : OrderBook → Book reported
+reportedBook book = record { count = book .count; smoothed = book .smoothed; sum = book .sum; peak = book .peak }

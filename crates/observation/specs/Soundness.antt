@@ -1,0 +1,34 @@
+-- Which records are sound (document 01, "The observation record").
+use mathlib.Core.Bool.{Bool, not, _&&_, _||_}
+use mathlib.Core.List.{List}
+use Prim.Native.Nat.{ℕ, _-_, _*_, _^_}
+use lib.Dec.{eqb, leb, ltb}
+use Rattle.algebra.specs.Lists.{anyOf}
+use Rattle.groups.specs.Group.{isSystem}
+use Rattle.observation.specs.declared.Observation.{Observation}
+
+-- at most 45,000 windows, 2.5 hours
+abbrev pub mostWindows : ℕ
+mostWindows = 45000
+
+-- the largest value of a row: 2^32 − 1
+abbrev pub largestValue : ℕ
+largestValue = 2 ^ 32 - 1
+
+-- no value is above the limit
+unfoldable pub noneAbove : ℕ → List ℕ → Bool
+noneAbove limit values = not (anyOf (ltb limit) values)
+
+-- all of the record's 120 numbers are 0
+unfoldable pub allZero : Observation → Bool
+allZero o = noneAbove 0 (o .smoothed) && noneAbove 0 (o .sum) && noneAbove 0 (o .peak)
+
+-- its system is 10 or 12, n is at most 45,000, no sum is above n×(2^32−1), no peak or smoothed value above 2^32−1, and n = 0 means zeros
+unfoldable pub isSound : Observation → Bool
+isSound o =
+    isSystem (o .system) &&
+    leb (o .windows) mostWindows &&
+    noneAbove (o .windows * largestValue) (o .sum) &&
+    noneAbove largestValue (o .peak) &&
+    noneAbove largestValue (o .smoothed) &&
+    (not (eqb (o .windows) 0) || allZero o)

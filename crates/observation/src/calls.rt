@@ -1,0 +1,131 @@
+// The calls that make a record and add a row to it.
+use crate::Observation;
+use crate::Recorded;
+use crate::Row;
+use crate::book::OrderBook;
+use crate::book::book_step;
+use crate::soundness::MOST_WINDOWS;
+use crate::soundness::is_sound;
+use groups::ORDER_COUNT;
+use groups::is_system;
+use refusals::NO_REFUSAL;
+use refusals::OTHER_SYSTEM;
+use refusals::RECORD_FULL;
+use refusals::UNKNOWN_SYSTEM;
+use refusals::UNSOUND_RECORD;
+ghost use mathlib.Core.Path.{_≡_};
+ghost use Rattle.refusals.specs.Numbers.{noRefusal};
+ghost use Rattle.observation.specs.Calls.{emptyRecord, freshAnswer, withRow, addRowRefusal, addRowAnswer};
+
+// The system of a record that is refused.
+const REFUSED_SYSTEM: u32 = 10;
+
+// A record of a system with zeros.
+fn empty_record(system: u32) -> Observation
+    ensures { λ r. ⌜ r ≡ emptyRecord system ⌝ }
+{
+    Observation {
+        system,
+        windows: 0,
+        smoothed: [0; ORDER_COUNT],
+        sum: [0; ORDER_COUNT],
+        peak: [0; ORDER_COUNT],
+    }
+}
+
+// The record that a list of calls begins with. Refused: 1 unknown system.
+pub fn fresh_record(system: u32) -> Recorded
+    ensures { λ r. ⌜ r ≡ freshAnswer system ⌝ }
+{
+    if is_system(system) {
+        Recorded {
+            refusal: NO_REFUSAL,
+            observation: empty_record(system),
+        }
+    } else {
+        Recorded {
+            refusal: UNKNOWN_SYSTEM,
+            observation: empty_record(REFUSED_SYSTEM),
+        }
+    }
+}
+
+// The checks of add_row, in order: 7 record not sound, 1 unknown system, 8 another system than the
+// record's, 9 record full.
+fn add_row_refusal(observation: Observation, row: Row) -> u32
+    ensures { λ r. ⌜ r ≡ addRowRefusal observation row ⌝ }
+{
+    let system = row.system;
+    let unsound = !is_sound(observation);
+    let unknown = !is_system(system);
+    let other = system != observation.system;
+    let full = MOST_WINDOWS <= observation.windows;
+    if unsound {
+        return UNSOUND_RECORD;
+    }
+    if unknown {
+        return UNKNOWN_SYSTEM;
+    }
+    if other {
+        return OTHER_SYSTEM;
+    }
+    if full {
+        return RECORD_FULL;
+    }
+    NO_REFUSAL
+}
+
+// The record with a row added: the book of each order takes its step.
+fn with_row(observation: Observation, row: Row) -> Observation
+    requires { ⌜ addRowRefusal observation row ≡ noRefusal ⌝ }
+    ensures { λ r. ⌜ r ≡ withRow observation row ⌝ }
+{
+    let windows = observation.windows;
+    let mut smoothed = observation.smoothed;
+    let mut sum = observation.sum;
+    let mut peak = observation.peak;
+    let values = row.values;
+    let mut i = 0;
+    while i < ORDER_COUNT {
+        let old_smoothed = smoothed[i];
+        let old_sum = sum[i];
+        let old_peak = peak[i];
+        let new = values[i];
+        let book = OrderBook {
+            count: windows,
+            smoothed: old_smoothed,
+            sum: old_sum,
+            peak: old_peak,
+        };
+        let next = book_step(book, new);
+        smoothed[i] = next.smoothed;
+        sum[i] = next.sum;
+        peak[i] = next.peak;
+        i += 1;
+    }
+    let windows = windows + 1;
+    Observation {
+        system: observation.system,
+        windows,
+        smoothed,
+        sum,
+        peak,
+    }
+}
+
+// A row added to a record, or the refusal with the record unchanged.
+pub fn add_row(observation: Observation, row: Row) -> Recorded
+    ensures { λ r. ⌜ r ≡ addRowAnswer observation row ⌝ }
+{
+    let refusal = add_row_refusal(observation, row);
+    if refusal != NO_REFUSAL {
+        return Recorded {
+            refusal,
+            observation,
+        };
+    }
+    Recorded {
+        refusal: NO_REFUSAL,
+        observation: with_row(observation, row),
+    }
+}

@@ -1,0 +1,35 @@
+// The observation record: smoothed values, their sums and their peaks over the windows of an
+// observation, for each of the 40 orders. It goes in by value and comes back by value.
+mod book;
+mod call_list;
+mod calls;
+mod soundness;
+
+pub use call_list::add_rows;
+pub use calls::add_row;
+pub use calls::fresh_record;
+use groups::ORDER_COUNT;
+pub use soundness::is_sound;
+
+// The values of the 40 orders of one window, orders 1..40 at the places 0..39, with their system.
+pub struct Row {
+    pub system: u32,
+    pub values: [u32; ORDER_COUNT],
+}
+
+// Document 01's observation record. Any numbers may stand in it; which records are sound is said
+// in specs/Soundness.antt.
+pub struct Observation {
+    pub system: u32,
+    pub windows: u32,
+    pub smoothed: [u64; ORDER_COUNT],
+    pub sum: [u64; ORDER_COUNT],
+    pub peak: [u64; ORDER_COUNT],
+}
+
+// What fresh_record and add_row answer: NO_REFUSAL with the new record, or a refusal's number with
+// the record unchanged.
+pub struct Recorded {
+    pub refusal: u32,
+    pub observation: Observation,
+}

@@ -1,0 +1,122 @@
+-- The worked numbers of the limits and of the verdicts (document 01, case •9, the edges, and each two neighbouring refusals in one call), each a table of rows and one computed theorem over it.
+use mathlib.Core.Path.{_≡_, refl}
+use mathlib.Core.List.{List, [], _∷_, map}
+use Prim.Native.Nat.{ℕ, _-_}
+use lib.ListN.{replicate, set}
+use Rattle.algebra.specs.Fraction.{whole, scale, divide, _+ᶠ_}
+use Rattle.algebra.specs.Lists.{anyOf}
+use Rattle.groups.specs.Group.{orderCount, isSystem}
+use Rattle.observation.specs.declared.Observation.{Observation}
+use Rattle.observation.specs.Soundness.{noneAbove, allZero, isSound}
+use Rattle.observation.specs.Calls.{emptyRecord}
+use Rattle.verdict.specs.declared.Verdict.the-variants.{Within, Close, Over}
+use Rattle.verdict.specs.declared.Answered.{Answered}
+use Rattle.verdict.specs.declared.Answered.the-variants.{Given, Refused}
+use Rattle.verdict.specs.Limit.{ownFigures, overOrder, figureIn, limitOf}
+use Rattle.verdict.specs.Tests.{limitInUnits, peakLimitInUnits, isWithin, isOver}
+use Rattle.verdict.specs.Call.{averageOf, peakOf, combined, verdictOf, verdictRefusal, verdictAnswer}
+
+-- ---- the limits
+
+pub record LimitCase : Type 0 where
+  pub order : ℕ
+  pub numerator : ℕ
+  pub denominator : ℕ
+
+abbrev mA : ℕ → ℕ → ℕ → LimitCase
+mA order numerator denominator = record { order = order; numerator = numerator; denominator = denominator }
+
+limitCases : List LimitCase
+limitCases =
+    mA 2 1080 1 ∷
+    mA 3 2300 1 ∷
+    mA 4 430 1 ∷
+    mA 5 1140 1 ∷
+    mA 6 300 1 ∷
+    mA 7 770 1 ∷
+    mA 8 1840 8 ∷
+    mA 9 400 1 ∷
+    mA 10 1840 10 ∷
+    mA 11 330 1 ∷
+    mA 13 210 1 ∷
+    mA 14 1840 14 ∷
+    mA 15 2250 15 ∷
+    mA 39 2250 39 ∷
+    mA 40 1840 40 ∷
+    []
+
+-- a row with the parts of the limit as they are defined
+limitAsked : LimitCase → LimitCase
+limitAsked row = mA (row .order) (limitOf (row .order) .num) (limitOf (row .order) .den)
+
+limits-worked : map limitAsked limitCases ≡ limitCases
+unfolding limitCases limitAsked limitOf figureIn ownFigures overOrder whole
+limits-worked = refl
+
+-- ---- the verdicts
+
+-- the numbers of one order, and zeros at every other
+only : ℕ → ℕ → List ℕ
+only order value = set (replicate orderCount 0) (order - 1) value
+
+-- a record of some windows with the sum and the peak of one order
+observed : ℕ → ℕ → ℕ → ℕ → Observation
+observed windows order sum peak =
+    record { system = 10; windows = windows; smoothed = only order peak; sum = only order sum; peak = only order peak }
+
+-- one window with a value at one order
+oneWindow : ℕ → ℕ → Observation
+oneWindow order value = observed 1 order value value
+
+-- of another system than 10 and 12
+unsound : Observation
+unsound = emptyRecord 11
+
+pub record VerdictCase : Type 0 where
+  pub observation : Observation
+  pub order : ℕ
+  pub unitsPerAmpere : ℕ
+  pub answer : Answered
+
+abbrev asked : Observation → ℕ → ℕ → Answered → VerdictCase
+asked observation order unitsPerAmpere answer =
+    record { observation = observation; order = order; unitsPerAmpere = unitsPerAmpere; answer = answer }
+
+verdictCases : List VerdictCase
+verdictCases =
+    -- case •9: the average decides
+    asked (oneWindow 3 2299988) 3 1000000 (Given (Within 3)) ∷
+    asked (oneWindow 3 2299989) 3 1000000 (Given (Close 3)) ∷
+    asked (oneWindow 3 2300012) 3 1000000 (Given (Close 3)) ∷
+    asked (oneWindow 3 2300013) 3 1000000 (Given (Over 3)) ∷
+    -- the peak decides, against 3450000
+    asked (observed 2 3 4000000 3449988) 3 1000000 (Given (Within 3)) ∷
+    asked (observed 2 3 4000000 3449989) 3 1000000 (Given (Close 3)) ∷
+    asked (observed 2 3 4000000 3450012) 3 1000000 (Given (Close 3)) ∷
+    asked (observed 2 3 4000000 3450013) 3 1000000 (Given (Over 3)) ∷
+    -- a limit that is not whole: 2250000/39 is above 57692 and below 57693
+    asked (oneWindow 39 57680) 39 1000000 (Given (Within 39)) ∷
+    asked (oneWindow 39 57681) 39 1000000 (Given (Close 39)) ∷
+    asked (oneWindow 39 57704) 39 1000000 (Given (Close 39)) ∷
+    asked (oneWindow 39 57705) 39 1000000 (Given (Over 39)) ∷
+    -- 6: the orders 2..40 are judged
+    asked (oneWindow 3 0) 1 1000000 (Refused 6) ∷
+    asked (oneWindow 3 0) 2 1000000 (Given (Within 2)) ∷
+    asked (oneWindow 3 0) 40 1000000 (Given (Within 40)) ∷
+    asked (oneWindow 3 0) 41 1000000 (Refused 6) ∷
+    -- 11: K is 1..2^28
+    asked (oneWindow 3 0) 3 0 (Refused 11) ∷
+    asked (oneWindow 3 0) 3 1 (Given (Close 3)) ∷
+    asked (oneWindow 3 0) 3 268435456 (Given (Within 3)) ∷
+    asked (oneWindow 3 0) 3 268435457 (Refused 11) ∷
+    -- 10: no window yet
+    asked (emptyRecord 10) 3 1000000 (Refused 10) ∷
+    -- 7 before 10, 10 before 6, 6 before 11
+    asked unsound 3 1000000 (Refused 7) ∷
+    asked (emptyRecord 10) 41 1000000 (Refused 10) ∷
+    asked (oneWindow 3 0) 1 0 (Refused 6) ∷
+    []
+
+verdicts-worked : map (λ row. verdictAnswer (row .observation) (row .order) (row .unitsPerAmpere)) verdictCases ≡ map (λ row. row .answer) verdictCases
+unfolding verdictCases only observed oneWindow unsound emptyRecord isSystem anyOf noneAbove allZero isSound whole scale divide _+ᶠ_ limitOf figureIn ownFigures overOrder limitInUnits peakLimitInUnits isWithin isOver averageOf peakOf combined verdictOf verdictRefusal verdictAnswer
+verdicts-worked = refl
