@@ -97,7 +97,7 @@ module _ (window : List ℤ) where
       }))
 
 -- the lines of a window in range are not refused
-lines-accepted : (system order : ℕ) (window : List ℤ) → isSystem system ≡ true → isOrder order ≡ true → InRange window → groupRefusal system order (linesOf window) ≡ noRefusal
+pub lines-accepted : (system order : ℕ) (window : List ℤ) → isSystem system ≡ true → isOrder order ≡ true → InRange window → groupRefusal system order (linesOf window) ≡ noRefusal
 unfolding groupRefusal
 lines-accepted system order window known-system known-order in-range =
     rw (known-system, known-order, eq-eqb _ _ (length-linesOf window), no-line-too-large window (in-range .samples))
@@ -107,7 +107,7 @@ unfolding isOrder
 is-order order above-zero at-most = rw (lt-ltb 0 order above-zero, le-leb order orderCount at-most)
 
 -- the lines of a group stand in the spectrum
-lines-of-group : (kind : Kind) (system order : ℕ) (window : List ℤ) → isSystem system ≡ true → isOrder order ≡ true → weightedSum (lineAt (linesOf window)) (weightsOf kind system order) ≡ weightedSum (lineOf window) (weightsOf kind system order)
+pub lines-of-group : (kind : Kind) (system order : ℕ) (window : List ℤ) → isSystem system ≡ true → isOrder order ≡ true → weightedSum (lineAt (linesOf window)) (weightsOf kind system order) ≡ weightedSum (lineOf window) (weightsOf kind system order)
 unfolding EveryLine
 lines-of-group kind system order window known-system known-order =
     weightedSum-eq _ _ (weightsOf kind system order)

@@ -1,6 +1,6 @@
 -- The theorems of class A verdicts.
+pub mod Worked
 pub mod CrossProducts
 pub mod LimitBounds
 pub mod Verdicts
 pub mod HeldParts
-pub mod Worked

@@ -3,6 +3,7 @@ use mathlib.Core.Path.{_≡_, sym, _∙_}
 use mathlib.Core.Bool.{Bool, true, false, _&&_}
 use Prim.Native.Nat.{ℕ}
 use lib.Dec.{eqb, leb}
+use native.Mathlib.Omega.{arith}
 use borrow.Author.Needs.{needs}
 use borrow.Author.Tests.{not-true, not-false, eq-eqb, ne-eqb}
 use Rattle.groups.specs.Group.{orderCount}
@@ -30,7 +31,9 @@ sound c = sym (c .before .is-sound .ensures) ∙ not-false _ (c .if1 .left)
 
 returns-2 : tie.Need-returns-2
 unfolding verdictRefusal
-returns-2 c = simp (sound (c .before .before), eq-eqb _ 0 (c .if2 .taken))
+returns-2 c =
+    let none : c .before .before .before .before .args .observation .windows ≡ 0 = omega arith in
+    simp (sound (c .before .before), eq-eqb _ 0 none)
 
 some-window : (c : tie.Else2) → eqb (c .before .before .before .before .args .observation .windows) 0 ≡ false
 some-window c = ne-eqb _ 0 (c .if2 .left)

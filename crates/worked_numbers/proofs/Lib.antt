@@ -1,0 +1,2 @@
+-- The theorem over the marked worked numbers.
+pub mod Worked

@@ -1,0 +1,102 @@
+-- The worked numbers of document 01 that are marked •, as one table. A row names what is asked and the number that document 01 prints; `Holds` says what it claims, of the definitions that the contracts cite.
+use mathlib.Core.Path.{_≡_}
+use mathlib.Core.Bool.{true}
+use mathlib.Core.List.{List, [], _∷_}
+use Prim.Native.Nat.{ℕ, _+_, _-_, _<_, _≤_}
+use Prim.Native.String.{String}
+use lib.IntN.{ℤ, pos, negsuc}
+use lib.ListN.{getD, replicate, set}
+use Rattle.refusals.specs.Numbers.{noRefusal, notAColumn}
+use Rattle.refusals.specs.Answers.{answer}
+use Rattle.sine.specs.Wave.{tableEntry}
+use Rattle.spectrum.specs.Line.{windowLength, lineCount, linesOf}
+use Rattle.groups.specs.declared.Kind.{Kind}
+use Rattle.groups.specs.declared.Kind.the-variants.{Component, HarmonicGroup, HarmonicSubgroup, InterharmonicGroup, InterharmonicCentredSubgroup}
+use Rattle.groups.specs.Group.{orderCount, isOrder, groupAnswer}
+use Rattle.observation.specs.declared.Row.{Row}
+use Rattle.observation.specs.declared.Observation.{Observation}
+use Rattle.observation.specs.Calls.{freshAnswer}
+use Rattle.observation.specs.CallList.{recordAfter}
+use Rattle.verdict.specs.declared.Verdict.{Verdict}
+use Rattle.verdict.specs.declared.Verdict.the-variants.{Within, Close, Over}
+use Rattle.verdict.specs.declared.Answered.the-variants.{Given}
+use Rattle.verdict.specs.Call.{verdictAnswer}
+use Rattle.columns.specs.Text.{bytesOf}
+use Rattle.columns.specs.declared.Number.{Number}
+use Rattle.columns.specs.Calls.{columnReadOf}
+
+-- "Pulse is sample 0 = 1000, the rest 0"
+unfoldable pub pulse : List ℤ
+pulse = pos 1000 ∷ replicate (windowLength - 1) (pos 0)
+
+-- a row of system 10 with one value at every order
+unfoldable pub rowOf : ℕ → Row
+rowOf value = record { system = 10; values = replicate orderCount value }
+
+-- the record after rows with these values
+unfoldable pub recordOf : List Row → Observation
+recordOf rows = recordAfter (freshAnswer 10 .observation) rows
+
+pub data Case : Type 0 where
+  -- an entry of the table, and its number
+  entry : ℕ → ℕ → Case
+  -- the number of every line of the pulse
+  everyLine : ℕ → Case
+  -- a kind, a system, and the pulse's value at every order
+  group : Kind → ℕ → ℕ → Case
+  -- two rows, and the smoothed value after them
+  smoothed : ℕ → ℕ → ℕ → Case
+  -- the value of one window at order 3, and the verdict at K = 1000000
+  verdict : ℕ → Verdict → Case
+  -- a text, and the number that it is read as
+  column : String → ℤ → Case
+  -- a text that is no column
+  noColumn : String → Case
+
+unfoldable pub Holds : Case → Type 0
+Holds (entry m number) = tableEntry m ≡ number
+Holds (everyLine number) = (k : ℕ) → k < lineCount → getD (linesOf pulse) k 0 ≡ number
+Holds (group kind system value) =
+    (order : ℕ) → isOrder order ≡ true → groupAnswer kind system order (linesOf pulse) ≡ answer noRefusal value
+Holds (smoothed first second value) =
+    recordOf (rowOf first ∷ rowOf second ∷ []) .smoothed ≡ replicate orderCount value
+Holds (verdict value given) = verdictAnswer (recordOf (rowOf value ∷ [])) 3 1000000 ≡ Given given
+Holds (column text number) = columnReadOf (bytesOf text) ≡ record { refusal = noRefusal; value = number }
+Holds (noColumn text) = columnReadOf (bytesOf text) ≡ record { refusal = notAColumn; value = pos 0 }
+
+unfoldable pub cases : List Case
+cases =
+    -- •1
+    entry 0 0 ∷
+    entry 256 759250125 ∷
+    entry 512 1073741824 ∷
+    -- •2
+    everyLine 4000000 ∷
+    -- •3
+    group Component 10 2828 ∷
+    group Component 12 2828 ∷
+    -- •4
+    group HarmonicSubgroup 10 4898 ∷
+    group HarmonicSubgroup 12 4898 ∷
+    -- •5
+    group HarmonicGroup 10 8944 ∷
+    group HarmonicGroup 12 9797 ∷
+    -- •6
+    group InterharmonicGroup 10 8485 ∷
+    group InterharmonicGroup 12 9380 ∷
+    -- •7
+    group InterharmonicCentredSubgroup 10 7483 ∷
+    group InterharmonicCentredSubgroup 12 8485 ∷
+    -- •8
+    smoothed 8944 0 7828 ∷
+    smoothed 0 8944 1116 ∷
+    -- •9
+    verdict 2299988 (Within 3) ∷
+    verdict 2299989 (Close 3) ∷
+    verdict 2300012 (Close 3) ∷
+    verdict 2300013 (Over 3) ∷
+    -- •10
+    column "      -7" (negsuc 6) ∷
+    noColumn "      07" ∷
+    noColumn "      -0" ∷
+    []

@@ -1,0 +1,2 @@
+-- The marked worked numbers of document 01.
+pub mod Cases

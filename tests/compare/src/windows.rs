@@ -1,0 +1,128 @@
+//! Spectra, groups and distortion.
+
+use crate::{Tally, numbers};
+use kifsang::{LINE_COUNT, ORDER_COUNT, WINDOW_LENGTH};
+use reference::group::Kind;
+use reference::random::Random;
+use reference::signals;
+
+const KINDS: [kifsang::Kind; 5] = [
+    kifsang::Kind::Component,
+    kifsang::Kind::HarmonicGroup,
+    kifsang::Kind::HarmonicSubgroup,
+    kifsang::Kind::InterharmonicGroup,
+    kifsang::Kind::InterharmonicCentredSubgroup,
+];
+
+/// One spectrum call on both sides, with all that the buffers hold after it.
+fn compare_spectrum(tally: &mut Tally, name: &str, recording: &[i32], start: usize, room: usize) {
+    let mut core = vec![0xABCD; room];
+    let mut other = core.clone();
+    let answer = kifsang::spectrum(recording, start, &mut core);
+    let expected = reference::spectrum::spectrum(recording, start, &mut other);
+    let (number, expected) = numbers(&answer, &expected);
+    tally.same(&format!("spectrum of {name} from {start}"), number, expected);
+    tally.same(&format!("lines of {name} from {start}"), core, other);
+}
+
+/// All kinds and orders of both systems for some lines, rows and distortion with them.
+fn compare_groups(tally: &mut Tally, name: &str, lines: &[u64]) {
+    for (kind, other) in KINDS.into_iter().zip(Kind::ALL) {
+        for system in [10, 12] {
+            let mut row = [0; ORDER_COUNT];
+            let whole = kifsang::row(kind, system, lines, &mut row);
+            for order in 1..=ORDER_COUNT as u32 {
+                let core = kifsang::group_value(kind, system, order, lines);
+                let expected = reference::group::group_value(other, system.into(), order.into(), lines);
+                let what = format!("{kind:?} of {name}, system {system}, order {order}");
+                tally.same(&what, numbers(&core, &expected).0, numbers(&core, &expected).1);
+                if let (Ok(value), Ok(expected)) = (core, expected) {
+                    tally.same(&what, value, expected);
+                    tally.same(&what, u64::from(row[order as usize - 1]), expected);
+                }
+                tally.same(&what, whole.is_ok(), core.is_ok());
+            }
+            compare_distortion(tally, name, &row);
+        }
+    }
+}
+
+fn compare_distortion(tally: &mut Tally, name: &str, row: &[u32; ORDER_COUNT]) {
+    let core = kifsang::distortion(row);
+    let expected = reference::distortion::distortion(row);
+    let (number, refusal) = numbers(&core, &expected);
+    tally.same(&format!("distortion of {name}"), number, refusal);
+    tally.same(&format!("distortion of {name}"), core.ok(), expected.ok());
+}
+
+/// Group values that are refused: each fault alone and each pair of neighbours in the order.
+fn compare_group_refusals(tally: &mut Tally) {
+    let good = vec![4_000_000; LINE_COUNT];
+    let mut at_edge = good.clone();
+    at_edge[511] = 1 << 59;
+    let mut above = good.clone();
+    above[511] = (1 << 59) + 1;
+    let short = vec![4_000_000; LINE_COUNT - 1];
+    for lines in [&good, &at_edge, &above, &short] {
+        for system in [0, 9, 10, 11, 12, 13, u32::MAX] {
+            for order in [0, 1, 2, 39, 40, 41, u32::MAX] {
+                for (kind, other) in KINDS.into_iter().zip(Kind::ALL) {
+                    let core = kifsang::group_value(kind, system, order, lines);
+                    let expected =
+                        reference::group::group_value(other, system.into(), order.into(), lines);
+                    let (number, refusal) = numbers(&core, &expected);
+                    let what = format!("{kind:?}, system {system}, order {order}");
+                    tally.same(&what, number, refusal);
+                    tally.same(&what, core.ok(), expected.ok());
+                }
+            }
+        }
+    }
+}
+
+pub fn compare(tally: &mut Tally, seed: u64) {
+    let mut windows = signals::plain_windows();
+    windows.extend(signals::seeded_windows(seed));
+    for system in [10, 12] {
+        windows.extend(signals::appliances(WINDOW_LENGTH, system, seed));
+    }
+    for signal in &windows {
+        compare_spectrum(tally, &signal.name, &signal.samples, 0, LINE_COUNT);
+        let mut lines = vec![0; LINE_COUNT];
+        kifsang::spectrum(&signal.samples, 0, &mut lines).expect("a window in range");
+        compare_groups(tally, &signal.name, &lines);
+    }
+
+    // A recording longer than a window, with the window in its middle and at its ends, and starts
+    // near the largest number; a sample out of range inside the window and outside.
+    let mut random = Random::new(seed);
+    let mut long = signals::noise(3 * WINDOW_LENGTH + 77, 131_071, random.bits());
+    for start in [0, 1, 1000, 2048, 4096, 4173, 4174, 6221, usize::MAX, usize::MAX - 2047] {
+        compare_spectrum(tally, "a long recording", &long.samples, start, LINE_COUNT);
+    }
+    long.samples[3000] = 131_072;
+    for start in [0, 951, 952, 953, 2999, 3000, 3001, 4174, usize::MAX] {
+        for room in [0, 511, 512, 513] {
+            compare_spectrum(tally, "a damaged recording", &long.samples, start, room);
+        }
+    }
+    long.samples[3000] = -131_072;
+    compare_spectrum(tally, "a damaged recording", &long.samples, 2000, LINE_COUNT);
+
+    compare_group_refusals(tally);
+    for _ in 0..2000 {
+        let bits = 1 + random.below(32);
+        let mut row = [0; ORDER_COUNT];
+        for value in &mut row {
+            *value = random.below(1 << bits) as u32;
+        }
+        if random.below(4) == 0 {
+            row[0] = random.below(3) as u32;
+        }
+        compare_distortion(tally, "a random row", &row);
+    }
+    compare_distortion(tally, "the largest row", &[u32::MAX; ORDER_COUNT]);
+    let mut steep = [u32::MAX; ORDER_COUNT];
+    steep[0] = 1;
+    compare_distortion(tally, "the steepest row", &steep);
+}

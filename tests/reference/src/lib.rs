@@ -1,0 +1,26 @@
+//! Second program for document 01 ("Harmonic groups, smoothing and class A
+//! verdicts of a mains current"). It is written from that document alone and
+//! shares no code and no table with the proved core, so that the two can be
+//! compared on many inputs. Speed and memory come after plainness here.
+
+pub mod annex_c;
+pub mod column;
+pub mod distortion;
+pub mod exact_group;
+pub mod group;
+pub mod harmlist;
+pub mod inputs;
+pub mod listing;
+pub mod natural;
+pub mod observation;
+pub mod random;
+pub mod refusal;
+pub mod rounding;
+pub mod search;
+pub mod signals;
+pub mod sine;
+pub mod spectrum;
+pub mod table;
+pub mod turn;
+pub mod vectors;
+pub mod verdict;

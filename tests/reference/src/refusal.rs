@@ -1,0 +1,47 @@
+//! The refusals and their numbers (document 01, "Where each refusal is
+//! checked"). The order of the checks stands in the functions that make them.
+
+/// Why a call was turned away. The discriminant is document 01's number.
+#[derive(Clone, Copy, Debug, PartialEq, Eq)]
+pub enum Refusal {
+    /// The system is neither 10 nor 12.
+    System = 1,
+    /// Fewer than 2,048 samples from the start.
+    ShortWindow = 2,
+    /// A sample lies outside −131,071..131,071.
+    SampleRange = 3,
+    /// The buffer of lines does not hold 512.
+    LineCount = 4,
+    /// A line is above 2^59.
+    LineRange = 5,
+    /// The order is outside the kind's orders.
+    Order = 6,
+    /// The observation record is not sound.
+    UnsoundRecord = 7,
+    /// The row's system differs from the record's.
+    OtherSystem = 8,
+    /// The record holds 45,000 windows already.
+    FullRecord = 9,
+    /// No window has come yet.
+    NoWindow = 10,
+    /// K is outside 1..2^28.
+    UnitsPerAmpere = 11,
+    /// The group of order 1 is 0.
+    NoFundamental = 12,
+    /// The text or number does not fit a column.
+    ColumnForm = 13,
+    /// The buffer has the wrong length.
+    BufferLength = 14,
+}
+
+impl Refusal {
+    /// Document 01's number of this refusal.
+    pub fn number(self) -> u8 {
+        self as u8
+    }
+}
+
+/// The number of a result's refusal, 0 when there is none.
+pub fn number_or_zero<T>(result: &Result<T, Refusal>) -> u8 {
+    result.as_ref().err().map_or(0, |refusal| refusal.number())
+}

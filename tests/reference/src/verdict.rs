@@ -1,0 +1,108 @@
+//! Class A verdicts (document 01, section of that name). Limits stay exact
+//! fractions, and fractions are compared by cross products.
+
+use crate::observation::{Record, is_sound};
+use crate::refusal::Refusal;
+
+/// The greatest K, units per ampere.
+pub const GREATEST_UNITS_PER_AMPERE: u64 = 1 << 28;
+/// The band about a value, in units.
+const BAND: i128 = 12;
+
+/// The verdict on one order, which it carries.
+#[derive(Clone, Copy, Debug, PartialEq, Eq)]
+pub enum Verdict {
+    /// Both tests are within.
+    Within(u64),
+    /// Neither of the other two.
+    Close(u64),
+    /// A test is over.
+    Over(u64),
+}
+
+/// A fraction; the denominator is above 0.
+#[derive(Clone, Copy)]
+struct Fraction {
+    numerator: i128,
+    denominator: i128,
+}
+
+impl Fraction {
+    fn plus(self, whole: i128) -> Fraction {
+        Fraction { numerator: self.numerator + whole * self.denominator, ..self }
+    }
+
+    fn at_most(self, other: Fraction) -> bool {
+        self.numerator * other.denominator <= other.numerator * self.denominator
+    }
+}
+
+/// The class A limit of an order 2..40 in mA.
+fn limit(order: u64) -> Fraction {
+    let (numerator, denominator) = match order {
+        2 => (1_080, 1),
+        3 => (2_300, 1),
+        4 => (430, 1),
+        5 => (1_140, 1),
+        6 => (300, 1),
+        7 => (770, 1),
+        9 => (400, 1),
+        11 => (330, 1),
+        13 => (210, 1),
+        _ if order % 2 == 1 => (2_250, order),
+        _ => (1_840, order),
+    };
+    Fraction { numerator, denominator: denominator.into() }
+}
+
+/// The limit in units: the mA figure × K / 1000, and that times `percent` / 100.
+fn limit_in_units(order: u64, units_per_ampere: u64, percent: i128) -> Fraction {
+    let milliamperes = limit(order);
+    Fraction {
+        numerator: milliamperes.numerator * i128::from(units_per_ampere) * percent,
+        denominator: milliamperes.denominator * 1_000 * 100,
+    }
+}
+
+/// One test: within if value + 12 is at most the limit, over if value − 12
+/// exceeds it, else close.
+fn test(value: Fraction, limit: Fraction, order: u64) -> Verdict {
+    if value.plus(BAND).at_most(limit) {
+        Verdict::Within(order)
+    } else if !value.plus(-BAND).at_most(limit) {
+        Verdict::Over(order)
+    } else {
+        Verdict::Close(order)
+    }
+}
+
+/// The verdict on an order. Refused in this order: 7, 10, 6, 11.
+pub fn verdict(record: &Record, order: u64, units_per_ampere: u64) -> Result<Verdict, Refusal> {
+    if !is_sound(record) {
+        return Err(Refusal::UnsoundRecord);
+    }
+    if record.windows == 0 {
+        return Err(Refusal::NoWindow);
+    }
+    if !(2..=40).contains(&order) {
+        return Err(Refusal::Order);
+    }
+    if !(1..=GREATEST_UNITS_PER_AMPERE).contains(&units_per_ampere) {
+        return Err(Refusal::UnitsPerAmpere);
+    }
+    let place = order as usize - 1;
+    let average =
+        Fraction { numerator: record.sums[place].into(), denominator: record.windows.into() };
+    let peak = Fraction { numerator: record.peaks[place].into(), denominator: 1 };
+    let tests = [
+        test(average, limit_in_units(order, units_per_ampere, 100), order),
+        test(peak, limit_in_units(order, units_per_ampere, 150), order),
+    ];
+    Ok(if tests.contains(&Verdict::Over(order)) {
+        Verdict::Over(order)
+    } else if tests == [Verdict::Within(order); 2] {
+        Verdict::Within(order)
+    } else {
+        Verdict::Close(order)
+    })
+}

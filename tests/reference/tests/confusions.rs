@@ -1,0 +1,83 @@
+//! The confusions that document 01 expects: each test names one and shows that
+//! this program does not share it.
+
+use reference::group::{Kind, group_value};
+use reference::observation::{Row, add_row, fresh_record, smooth};
+use reference::spectrum::LINES;
+use reference::verdict::{Verdict, verdict};
+
+/// Whether a line enters the group of order 5.
+fn enters(kind: Kind, system: u64, line: u64) -> bool {
+    let mut lines = [0; LINES];
+    lines[line as usize] = 1 << 40;
+    group_value(kind, system, 5, &lines).unwrap() > 0
+}
+
+#[test]
+fn edge_lines_have_half_weight() {
+    let pulse = [4_000_000; LINES];
+    assert_eq!(group_value(Kind::HarmonicGroup, 10, 1, &pulse), Ok(8_944));
+    for system in [10, 12] {
+        let mut edges = [0; LINES];
+        edges[(system * 5 - system / 2) as usize] = 1 << 40;
+        edges[(system * 5 + system / 2) as usize] = 1 << 40;
+        let mut centre = [0; LINES];
+        centre[system as usize * 5] = 1 << 40;
+        let both_edges = group_value(Kind::HarmonicGroup, system, 5, &edges);
+        assert_eq!(both_edges, group_value(Kind::HarmonicGroup, system, 5, &centre));
+    }
+}
+
+#[test]
+fn lines_of_each_kind_are_counted_from_the_harmonic() {
+    for system in [10, 12] {
+        let half = system as i64 / 2;
+        let last = system as i64 - 1;
+        for (kind, from, to) in [
+            (Kind::Component, 0, 0),
+            (Kind::HarmonicGroup, -half, half),
+            (Kind::HarmonicSubgroup, -1, 1),
+            (Kind::InterharmonicGroup, 1, last),
+            (Kind::InterharmonicCentredSubgroup, 2, last - 1),
+        ] {
+            for offset in -20..=20 {
+                let line = (5 * system as i64 + offset) as u64;
+                let expected = (from..=to).contains(&offset);
+                assert_eq!(enters(kind, system, line), expected, "{kind:?} {system} {offset}");
+            }
+        }
+    }
+}
+
+#[test]
+fn values_are_smoothed_and_not_their_squares() {
+    let (new, old) = (0.0_f64, 8_944.0_f64);
+    let of_squares = ((1_000.0 * new * new + 7_012.0 * old * old) / 8_012.0).sqrt();
+    assert_eq!(of_squares.round(), 8_367.0);
+    assert_eq!(smooth(0, 8_944), 7_828);
+}
+
+/// The verdict on one window with a value at every order.
+fn verdict_on(value: u32, order: u64, units_per_ampere: u64) -> Verdict {
+    let (record, _) = fresh_record(10);
+    let (record, _) = add_row(record, &Row { system: 10, values: [value; 40] });
+    verdict(&record, order, units_per_ampere).unwrap()
+}
+
+#[test]
+fn limit_is_not_divided_before_it_is_compared() {
+    // 2250/39 mA at a million units per ampere is 57692 and 4/13 units.
+    assert_eq!(verdict_on(57_680, 39, 1_000_000), Verdict::Within(39));
+    assert_eq!(verdict_on(57_681, 39, 1_000_000), Verdict::Close(39));
+    assert_eq!(verdict_on(57_704, 39, 1_000_000), Verdict::Close(39));
+    assert_eq!(verdict_on(57_705, 39, 1_000_000), Verdict::Over(39));
+}
+
+#[test]
+fn band_lies_on_both_sides() {
+    for (below, above) in [(2_299_988, 2_300_012), (2_299_989, 2_300_013)] {
+        let sides = [verdict_on(below, 3, 1_000_000), verdict_on(above, 3, 1_000_000)];
+        assert!(sides.contains(&Verdict::Close(3)));
+        assert_ne!(sides[0], sides[1]);
+    }
+}

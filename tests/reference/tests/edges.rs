@@ -1,0 +1,457 @@
+//! Edges of every public function, and the order of its refusals (document 01,
+//! "Where each refusal is checked").
+
+use reference::column::{read_column, text_of, write_column};
+use reference::distortion::distortion;
+use reference::group::{Kind, group_value, group_values};
+use reference::listing::{fill_listing, listing_text};
+use reference::observation::{Record, Row, add_row, fresh_record, is_sound, smooth};
+use reference::random::Random;
+use reference::refusal::Refusal;
+use reference::signals::{halfway_window, noise, plain_windows, pulse, square_wave};
+use reference::spectrum::{GREATEST_LINE, LINES, WINDOW, lines_of, spectrum};
+use reference::table::full_wave;
+use reference::verdict::{Verdict, verdict};
+
+const GREATEST: u64 = u32::MAX as u64;
+
+#[test]
+fn window_may_end_exactly_at_the_end() {
+    let window = noise(WINDOW, 131_071, 5).samples;
+    let alone = lines_of(&window, 0);
+    for (before, after) in [(0, 0), (3, 0), (0, 9), (2_500, 1), (1, 5_000)] {
+        let mut recording = vec![i32::MAX; before];
+        recording.extend(&window);
+        recording.extend(vec![i32::MIN; after]);
+        assert_eq!(lines_of(&recording, before), alone);
+        let past = recording.len() - WINDOW + 1;
+        assert_eq!(lines_of(&recording, past), Err(Refusal::ShortWindow));
+    }
+}
+
+#[test]
+fn start_may_lie_far_past_the_end() {
+    let recording = [0; WINDOW];
+    for start in [1, WINDOW, WINDOW + 1, usize::MAX - WINDOW, usize::MAX - 1, usize::MAX] {
+        assert_eq!(lines_of(&recording, start), Err(Refusal::ShortWindow));
+    }
+    assert_eq!(lines_of(&[], 0), Err(Refusal::ShortWindow));
+}
+
+#[test]
+fn spectrum_refuses_in_order_and_leaves_the_buffer() {
+    let mut bad = vec![0; WINDOW];
+    bad[2_047] = -131_072;
+    for (start, line_count, expected) in [
+        (1, LINES - 1, Refusal::ShortWindow),
+        (0, LINES - 1, Refusal::LineCount),
+        (0, LINES + 1, Refusal::LineCount),
+        (0, LINES, Refusal::SampleRange),
+    ] {
+        let mut lines = vec![7; line_count];
+        assert_eq!(spectrum(&bad, start, &mut lines), Err(expected));
+        assert_eq!(lines, vec![7; line_count]);
+    }
+}
+
+#[test]
+fn samples_at_both_ends_of_the_range_are_taken() {
+    for (sample, taken) in [(131_071, true), (131_072, false), (-131_071, true), (-131_072, false)]
+    {
+        for place in [0, 1_000, 2_047] {
+            let mut window = [0; WINDOW];
+            window[place] = sample;
+            assert_eq!(lines_of(&window, 0).is_ok(), taken, "{sample} at {place}");
+        }
+    }
+}
+
+#[test]
+fn line_sums_are_rounded_before_they_are_squared() {
+    // For 1 at sample 1, A and B are twice the cosine and sine at the line.
+    let lines = lines_of(&pulse(WINDOW, 1, 1).samples, 0).unwrap();
+    let rounded = |value: f64| (value + 0.5).floor();
+    for (k, &line) in lines.iter().enumerate() {
+        let angle = std::f64::consts::TAU * k as f64 / WINDOW as f64;
+        let expected = rounded(2.0 * angle.cos()).powi(2) + rounded(2.0 * angle.sin()).powi(2);
+        assert_eq!(line as f64, expected, "line {k}");
+    }
+}
+
+/// The sums of line 128 with cosine and with sine.
+fn sums_of_line_128(window: &[i32]) -> [i64; 2] {
+    let wave = full_wave();
+    [512, 0].map(|shift| {
+        let entry = |j: usize| i64::from(wave[(128 * j + shift) % 2_048]);
+        window.iter().enumerate().map(|(j, &sample)| i64::from(sample) * entry(j)).sum()
+    })
+}
+
+#[test]
+fn halves_of_a_line_sum_go_up_on_both_sides_of_zero() {
+    for of_sine in [false, true] {
+        for sign in [1, -1] {
+            let window = halfway_window(sign, of_sine).samples;
+            let sums = sums_of_line_128(&window);
+            let halved = sums[usize::from(of_sine)];
+            assert_eq!(halved.rem_euclid(1 << 29), 1 << 28);
+            assert_eq!(halved.signum(), i64::from(sign));
+            // Adding one half to the quotient makes it whole, and then it stays.
+            let up = (halved + (1 << 28)) / (1 << 29);
+            let other = (sums[usize::from(!of_sine)] as f64 / f64::from(1 << 29) + 0.5).floor();
+            let line = up.pow(2) as u64 + other.powi(2) as u64;
+            assert_eq!(lines_of(&window, 0).unwrap()[128], line);
+        }
+    }
+}
+
+#[test]
+fn no_line_of_a_window_is_above_the_greatest() {
+    for signal in plain_windows() {
+        let lines = lines_of(&signal.samples, 0).unwrap();
+        assert!(lines.iter().all(|&line| line <= GREATEST_LINE), "{}", signal.name);
+    }
+    let lines = lines_of(&square_wave(WINDOW, 0.0).samples, 0).unwrap();
+    assert_eq!(lines[0], (2 * 2_048 * 131_071_u64).pow(2));
+}
+
+#[test]
+fn group_value_refuses_in_order() {
+    let good = vec![4; LINES];
+    let mut above = good.clone();
+    above[511] = GREATEST_LINE + 1;
+    let long = vec![u64::MAX; LINES + 1];
+    for kind in Kind::ALL {
+        for (system, order, lines, expected) in [
+            (11, 0, &long, Refusal::System),
+            (0, 1, &good, Refusal::System),
+            (10, 0, &long, Refusal::Order),
+            (12, 41, &above, Refusal::Order),
+            (12, u64::MAX, &good, Refusal::Order),
+            (10, 1, &long, Refusal::LineCount),
+            (12, 40, &above, Refusal::LineRange),
+        ] {
+            assert_eq!(group_value(kind, system, order, lines), Err(expected));
+        }
+    }
+}
+
+#[test]
+fn every_line_of_the_buffer_is_checked() {
+    for place in 0..LINES {
+        let mut lines = [0; LINES];
+        lines[place] = GREATEST_LINE;
+        assert!(group_value(Kind::Component, 10, 1, &lines).is_ok());
+        lines[place] = GREATEST_LINE + 1;
+        let result = group_value(Kind::Component, 10, 1, &lines);
+        assert_eq!(result, Err(Refusal::LineRange));
+    }
+}
+
+#[test]
+fn greatest_lines_give_values_of_32_bits() {
+    for system in [10, 12] {
+        for kind in Kind::ALL {
+            let values = group_values(kind, system, &[GREATEST_LINE; LINES]).unwrap();
+            let wide = group_value(kind, system, 40, &[GREATEST_LINE; LINES]).unwrap();
+            assert_eq!(u64::from(values[39]), wide);
+        }
+    }
+    // 24 × 2^59 is the greatest sum; its root is 3719550786.
+    let greatest = group_value(Kind::HarmonicGroup, 12, 1, &[GREATEST_LINE; LINES]);
+    assert_eq!(greatest, Ok(3_719_550_786));
+}
+
+#[test]
+fn distortion_is_the_largest_such_number() {
+    let mut random = Random::new(11);
+    let mut rows = vec![[1; 40], [u32::MAX; 40]];
+    for _ in 0..200 {
+        let shift = random.below(32);
+        rows.push(std::array::from_fn(|_| (random.bits() >> 32 >> shift) as u32 | 1));
+    }
+    let mut tallest = [u32::MAX; 40];
+    tallest[0] = 1;
+    rows.push(tallest);
+    for row in rows {
+        let t = u128::from(distortion(&row).unwrap());
+        let square = |value: u32| u128::from(value).pow(2);
+        let bound = 1_000_000 * row[1..].iter().map(|&value| square(value)).sum::<u128>();
+        // t² × R1² ≤ bound < (t+1)² × R1², told by the whole quotient.
+        let quotient = bound / square(row[0]);
+        assert!(t * t <= quotient && quotient < (t + 1) * (t + 1));
+    }
+    let mut no_fundamental = [9; 40];
+    no_fundamental[0] = 0;
+    assert_eq!(distortion(&no_fundamental), Err(Refusal::NoFundamental));
+    let mut alone = [0; 40];
+    alone[0] = 9;
+    assert_eq!(distortion(&alone), Ok(0));
+}
+
+fn row(system: u64, value: u32) -> Row {
+    Row { system, values: [value; 40] }
+}
+
+/// A sound record of so many windows, all at the greatest value.
+fn full_record(windows: u64) -> Record {
+    let (fresh, _) = fresh_record(10);
+    let full = [GREATEST; 40];
+    Record { windows, smoothed: full, sums: [windows * GREATEST; 40], peaks: full, ..fresh }
+}
+
+#[test]
+fn fresh_record_holds_zeros() {
+    for system in [10, 12] {
+        let (record, refusal) = fresh_record(system);
+        assert_eq!((record.system, record.windows, refusal), (system, 0, None));
+        assert_eq!([record.smoothed, record.sums, record.peaks], [[0; 40]; 3]);
+    }
+    for system in [0, 11, 13, u64::MAX] {
+        assert_eq!(fresh_record(system), (fresh_record(10).0, Some(Refusal::System)));
+    }
+}
+
+#[test]
+fn soundness_has_each_of_its_parts() {
+    assert!(is_sound(&full_record(1)));
+    assert!(is_sound(&full_record(45_000)));
+    assert!(!is_sound(&full_record(45_001)));
+    assert!(!is_sound(&Record { system: 11, ..full_record(1) }));
+    let edits: [fn(&mut Record); 3] = [
+        |record| record.sums[7] += 1,
+        |record| record.peaks[7] += 1,
+        |record| record.smoothed[7] += 1,
+    ];
+    for edit in edits {
+        for mut record in [full_record(3), fresh_record(12).0] {
+            assert!(is_sound(&record));
+            edit(&mut record);
+            assert!(!is_sound(&record));
+        }
+    }
+}
+
+#[test]
+fn add_row_refuses_in_order_and_leaves_the_record() {
+    let unsound = full_record(45_001);
+    let full = full_record(45_000);
+    for (record, system, expected) in [
+        (&unsound, 11, Refusal::UnsoundRecord),
+        (&unsound, 10, Refusal::UnsoundRecord),
+        (&full, 11, Refusal::System),
+        (&full, 12, Refusal::OtherSystem),
+        (&full, 10, Refusal::FullRecord),
+    ] {
+        let (after, refusal) = add_row(record.clone(), &row(system, 1));
+        assert_eq!((&after, refusal), (record, Some(expected)));
+    }
+    let (after, refusal) = add_row(full_record(44_999), &row(10, u32::MAX));
+    assert_eq!((after, refusal), (full, None));
+}
+
+#[test]
+fn sums_and_peaks_are_of_smoothed_values() {
+    let (mut record, _) = fresh_record(12);
+    for value in [8_944, 0, 8_944] {
+        record = add_row(record, &row(12, value)).0;
+    }
+    let last = smooth(8_944, 7_828);
+    assert_eq!(record.windows, 3);
+    assert_eq!(record.smoothed, [last; 40]);
+    assert_eq!(record.sums, [8_944 + 7_828 + last; 40]);
+    assert_eq!(record.peaks, [8_944; 40]);
+}
+
+#[test]
+fn smoothing_rounds_to_the_nearest() {
+    // 1000, 7012 and 8012 are multiples of 4 and half of 8012 is not, so that an
+    // exact half never comes; 4004 and 4008 are the rests beside it.
+    let quotient_and_rest = |new: u64, old: u64| {
+        let sum = 1_000 * new + 7_012 * old;
+        (sum / 8_012, sum % 8_012)
+    };
+    let mut rests_beside_the_half = 0;
+    for (new, old) in (0..2_003).flat_map(|new| (0..8).map(move |old| (new, old))) {
+        let (quotient, rest) = quotient_and_rest(new, old);
+        assert_ne!(rest, 4_006);
+        assert_eq!(smooth(new, old), quotient + u64::from(rest > 4_006));
+        rests_beside_the_half += u32::from(rest == 4_004 || rest == 4_008);
+    }
+    assert_eq!(rests_beside_the_half, 16);
+    assert_eq!(smooth(GREATEST, GREATEST), GREATEST);
+}
+
+#[test]
+fn verdict_refuses_in_order() {
+    let (fresh, _) = fresh_record(10);
+    let held = full_record(1);
+    for (record, order, units_per_ampere, expected) in [
+        (&full_record(45_001), 1, 0, Refusal::UnsoundRecord),
+        (&fresh, 1, 0, Refusal::NoWindow),
+        (&fresh, 3, 1, Refusal::NoWindow),
+        (&held, 1, 0, Refusal::Order),
+        (&held, 0, 1, Refusal::Order),
+        (&held, 41, 0, Refusal::Order),
+        (&held, 2, 0, Refusal::UnitsPerAmpere),
+        (&held, 40, 268_435_457, Refusal::UnitsPerAmpere),
+    ] {
+        assert_eq!(verdict(record, order, units_per_ampere), Err(expected));
+    }
+    assert_eq!(verdict(&held, 2, 1), Ok(Verdict::Over(2)));
+    assert_eq!(verdict(&held, 40, 268_435_456), Ok(Verdict::Over(40)));
+}
+
+/// The verdict on order 3 with 2,300,000 units of limit and 3,450,000 of peak.
+fn verdict_on_order_3(windows: u64, sum: u64, peak: u64) -> Verdict {
+    let (mut record, _) = fresh_record(10);
+    record.windows = windows;
+    record.sums[2] = sum;
+    record.peaks[2] = peak;
+    verdict(&record, 3, 1_000_000).unwrap()
+}
+
+#[test]
+fn peak_is_tested_against_half_as_much_again() {
+    assert_eq!(verdict_on_order_3(2, 0, 3_449_988), Verdict::Within(3));
+    assert_eq!(verdict_on_order_3(2, 0, 3_449_989), Verdict::Close(3));
+    assert_eq!(verdict_on_order_3(2, 0, 3_450_012), Verdict::Close(3));
+    assert_eq!(verdict_on_order_3(2, 0, 3_450_013), Verdict::Over(3));
+}
+
+#[test]
+fn average_is_not_divided_before_it_is_compared() {
+    assert_eq!(verdict_on_order_3(2, 2 * 2_299_988, 0), Verdict::Within(3));
+    assert_eq!(verdict_on_order_3(2, 2 * 2_299_988 + 1, 0), Verdict::Close(3));
+    assert_eq!(verdict_on_order_3(2, 2 * 2_300_012, 0), Verdict::Close(3));
+    assert_eq!(verdict_on_order_3(2, 2 * 2_300_012 + 1, 0), Verdict::Over(3));
+}
+
+#[test]
+fn one_test_over_outweighs_the_other() {
+    assert_eq!(verdict_on_order_3(1, 2_300_013, 0), Verdict::Over(3));
+    assert_eq!(verdict_on_order_3(1, 2_300_000, 3_450_013), Verdict::Over(3));
+    assert_eq!(verdict_on_order_3(1, 2_300_000, 0), Verdict::Close(3));
+    assert_eq!(verdict_on_order_3(1, 0, 3_450_000), Verdict::Close(3));
+}
+
+/// The greatest value of one window that is within, at a million units.
+fn last_within(order: usize) -> u64 {
+    let record_of = |value: u64| {
+        let (mut record, _) = fresh_record(10);
+        record.windows = 1;
+        record.sums[order - 1] = value;
+        record
+    };
+    let order = order as u64;
+    let is_within =
+        |value| verdict(&record_of(value), order, 1_000_000) == Ok(Verdict::Within(order));
+    reference::search::largest_where(22, is_within)
+}
+
+#[test]
+fn limits_are_those_of_the_text() {
+    let whole =
+        [(2, 1080), (3, 2300), (4, 430), (5, 1140), (6, 300), (7, 770), (9, 400), (11, 330)];
+    for (order, milliamperes) in whole.into_iter().chain([(13, 210)]) {
+        assert_eq!(last_within(order), 1_000 * milliamperes - 12);
+    }
+    for order in (15..=39).step_by(2) {
+        assert_eq!(last_within(order), 2_250_000 / order as u64 - 12);
+    }
+    for order in (8..=40).step_by(2) {
+        assert_eq!(last_within(order), 1_840_000 / order as u64 - 12);
+    }
+}
+
+#[test]
+fn columns_read_back_what_they_wrote() {
+    let mut random = Random::new(3);
+    for _ in 0..5_000 {
+        let number = (random.bits() >> (38 + random.below(26))) as i64 - (1 << 20);
+        let mut buffer = [0; 8];
+        assert_eq!(write_column(&mut buffer, number), Ok(()));
+        assert_eq!(read_column(&buffer), Ok(number));
+    }
+}
+
+#[test]
+fn only_the_written_form_is_read() {
+    // Each text over a small alphabet is refused, or is what its number writes.
+    let alphabet = b" -019";
+    for code in 0..5_usize.pow(8) {
+        let text: [u8; 8] =
+            std::array::from_fn(|place| alphabet[code / 5_usize.pow(place as u32) % 5]);
+        if let Ok(number) = read_column(&text) {
+            assert_eq!(text_of(number, 8).as_deref(), Some(&text[..]));
+        }
+    }
+}
+
+#[test]
+fn column_edges() {
+    assert_eq!(read_column(b"99999999"), Ok(99_999_999));
+    assert_eq!(read_column(b"-9999999"), Ok(-9_999_999));
+    assert_eq!(read_column(b"       0"), Ok(0));
+    let refused: [&[u8]; 12] = [
+        b"",
+        b"7",
+        b"      7",
+        b"        7",
+        b"        ",
+        b"       -",
+        b"      +7",
+        b"     - 7",
+        b"      7 ",
+        b"     1 2",
+        b"\t      7",
+        b"      7\n",
+    ];
+    for text in refused {
+        assert_eq!(read_column(text), Err(Refusal::ColumnForm), "{text:?}");
+    }
+    for (number, length, expected) in [
+        (99_999_999, 8, Ok(())),
+        (-9_999_999, 8, Ok(())),
+        (100_000_000, 8, Err(Refusal::ColumnForm)),
+        (-10_000_000, 8, Err(Refusal::ColumnForm)),
+        (i64::MIN, 8, Err(Refusal::ColumnForm)),
+        (100_000_000, 9, Err(Refusal::BufferLength)),
+        (1, 7, Err(Refusal::BufferLength)),
+        (1, 0, Err(Refusal::BufferLength)),
+    ] {
+        let mut buffer = vec![b'#'; length];
+        assert_eq!(write_column(&mut buffer, number), expected);
+        assert_eq!(expected.is_err(), buffer == vec![b'#'; length]);
+    }
+}
+
+#[test]
+fn listing_needs_its_whole_buffer() {
+    let full = [u32::MAX; 40];
+    let mut short = [b'#'; 1_639];
+    assert_eq!(fill_listing(&mut short, &full, &full, &full), Err(Refusal::BufferLength));
+    assert_eq!(short, [b'#'; 1_639]);
+    let mut buffer = [b'#'; 1_700];
+    assert_eq!(fill_listing(&mut buffer, &full, &full, &full), Ok(1_640));
+    assert_eq!(&buffer[1_600..1_640], b" 40  4294967295  4294967295  4294967295\n");
+    assert_eq!(buffer[1_640..], [b'#'; 60]);
+}
+
+#[test]
+fn orders_with_three_zeros_are_left_out() {
+    let zeros = [0; 40];
+    let only = |order: usize| std::array::from_fn(|place| u32::from(place + 1 == order));
+    let header = "  h       group    subgroup    smoothed\n";
+    let first = "  1           0           0           0\n";
+    let text = |group, subgroup, smoothed| {
+        String::from_utf8(listing_text(&group, &subgroup, &smoothed)).unwrap()
+    };
+    assert_eq!(text(zeros, zeros, zeros), format!("{header}{first}"));
+    let line = " 40           0           1           0\n";
+    assert_eq!(text(zeros, only(40), zeros), format!("{header}{first}{line}"));
+    let line = "  2           0           0           1\n";
+    assert_eq!(text(zeros, zeros, only(2)), format!("{header}{first}{line}"));
+    let line = "  1           1           0           0\n";
+    assert_eq!(text(only(1), zeros, zeros), format!("{header}{line}"));
+}

@@ -1,0 +1,109 @@
+//! The worked numbers of document 01, by their marks, and the worked listing.
+
+use reference::column::read_column;
+use reference::group::{Kind, group_value, group_values};
+use reference::harmlist::harmlist;
+use reference::inputs::input_bytes;
+use reference::observation::{Record, Row, add_row, fresh_record};
+use reference::refusal::Refusal;
+use reference::signals::{constant, pulse};
+use reference::spectrum::{WINDOW, lines_of};
+use reference::table::quarter_wave;
+use reference::verdict::{Verdict, verdict};
+
+/// The pulse of document 01: sample 0 is 1000, the rest 0.
+fn pulse_lines() -> [u64; 512] {
+    lines_of(&pulse(WINDOW, 0, 1_000).samples, 0).unwrap()
+}
+
+/// The record after rows that hold one value at all orders.
+fn record_of(system: u64, values: &[u32]) -> Record {
+    let (fresh, _) = fresh_record(system);
+    values.iter().fold(fresh, |record, &value| {
+        let (record, refusal) = add_row(record, &Row { system, values: [value; 40] });
+        assert_eq!(refusal, None);
+        record
+    })
+}
+
+#[test]
+fn number_1_table_entries() {
+    let table = quarter_wave();
+    assert_eq!([table[0], table[256], table[512]], [0, 759_250_125, 1_073_741_824]);
+}
+
+#[test]
+fn number_2_every_line_of_the_pulse() {
+    assert_eq!(pulse_lines(), [4_000_000; 512]);
+}
+
+#[test]
+fn numbers_3_to_7_groups_of_the_pulse() {
+    for (kind, at_10, at_12) in [
+        (Kind::Component, 2_828, 2_828),
+        (Kind::HarmonicSubgroup, 4_898, 4_898),
+        (Kind::HarmonicGroup, 8_944, 9_797),
+        (Kind::InterharmonicGroup, 8_485, 9_380),
+        (Kind::InterharmonicCentredSubgroup, 7_483, 8_485),
+    ] {
+        assert_eq!(group_values(kind, 10, &pulse_lines()), Ok([at_10; 40]), "{kind:?}");
+        assert_eq!(group_values(kind, 12, &pulse_lines()), Ok([at_12; 40]), "{kind:?}");
+    }
+}
+
+#[test]
+fn number_8_smoothing() {
+    assert_eq!(record_of(10, &[8_944, 0]).smoothed, [7_828; 40]);
+    assert_eq!(record_of(10, &[0, 8_944]).smoothed, [1_116; 40]);
+}
+
+#[test]
+fn number_9_verdicts_on_order_3() {
+    for (value, expected) in [
+        (2_299_988, Verdict::Within(3)),
+        (2_299_989, Verdict::Close(3)),
+        (2_300_012, Verdict::Close(3)),
+        (2_300_013, Verdict::Over(3)),
+    ] {
+        assert_eq!(verdict(&record_of(12, &[value]), 3, 1_000_000), Ok(expected), "{value}");
+    }
+}
+
+#[test]
+fn number_10_columns() {
+    assert_eq!(read_column(b"      -7"), Ok(-7));
+    assert_eq!(read_column(b"      07"), Err(Refusal::ColumnForm));
+    assert_eq!(read_column(b"      -0"), Err(Refusal::ColumnForm));
+}
+
+#[test]
+fn unmarked_sample_range() {
+    let refusal = |sample| lines_of(&pulse(WINDOW, 9, sample).samples, 0).err();
+    assert_eq!(refusal(131_071), None);
+    assert_eq!(refusal(131_072), Some(Refusal::SampleRange));
+}
+
+#[test]
+fn unmarked_orders() {
+    let value = |order| group_value(Kind::Component, 12, order, &pulse_lines());
+    assert_eq!(value(40), Ok(2_828));
+    assert_eq!(value(41), Err(Refusal::Order));
+    assert_eq!(verdict(&record_of(10, &[0]), 40, 1_000_000), Ok(Verdict::Within(40)));
+    assert_eq!(verdict(&record_of(10, &[0]), 41, 1_000_000), Err(Refusal::Order));
+}
+
+#[test]
+fn unmarked_units_per_ampere() {
+    let record = record_of(10, &[0]);
+    assert_eq!(verdict(&record, 2, 268_435_456), Ok(Verdict::Within(2)));
+    assert_eq!(verdict(&record, 2, 268_435_457), Err(Refusal::UnitsPerAmpere));
+}
+
+#[test]
+fn listing_of_a_constant_window() {
+    let input = input_bytes(10, &constant(WINDOW, 500).samples);
+    let expected = "  h       group    subgroup    smoothed
+  1           0           0           0
+";
+    assert_eq!(String::from_utf8(harmlist(input.into_iter())).unwrap(), expected);
+}
