@@ -23,9 +23,9 @@ static void next_window(int32_t samples[KIFSANG_WINDOW_LENGTH])
 
 static int refused(const char *call, uint32_t number)
 {
-    if (number != KIFSANG_WORKED)
+    if (number != KIFSANG_NO_REFUSAL)
         fprintf(stderr, "%s refused, number %u\n", call, (unsigned)number);
-    return number != KIFSANG_WORKED;
+    return number != KIFSANG_NO_REFUSAL;
 }
 
 int main(void)

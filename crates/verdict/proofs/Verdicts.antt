@@ -1,15 +1,16 @@
 -- What a verdict says, for the theorems above it: what is known of a call that is not refused, and how the average and the peak lie to their limits in each of the three cases.
 -- Assumes nothing.
-use mathlib.Core.Path.{_≡_, refl}
-use mathlib.Core.Bool.{Bool, true, false, not, cond, _&&_, _||_}
+use mathlib.Core.Path.{_≡_, refl, sym}
+use mathlib.Core.Bool.{Bool, true, false, true≢false, not, cond, _&&_, _||_}
 use mathlib.Core.Logic.{_⊎_, inl, inr, ⊎-map}
 use Prim.Native.Nat.{ℕ, _≤_, _<_}
 use native.Mathlib.Omega.{arith}
 use lib.Dec.{eqb, leb}
-use borrow.Author.Tests.{leb-true, leb-false, ltb-true, ltb-false, eqb-false}
+use borrow.Author.Tests.{leb-true, leb-false, ltb-true, ltb-false, eqb-false, not-false}
 use Rattle.algebra.specs.Fraction.{Fraction, whole, _+ᶠ_, _≤ᶠ_, _<ᶠ_}
 use Rattle.groups.specs.Group.{orderCount}
 use Rattle.refusals.specs.Numbers.{noRefusal, unsoundRecord, noWindow, orderOutOfRange, scaleOutOfRange}
+use Rattle.refusals.proofs.Answers.{no-fault}
 use Rattle.observation.specs.declared.Observation.{Observation}
 use Rattle.observation.specs.Soundness.{isSound}
 use Rattle.verdict.specs.declared.Verdict.{Verdict}
@@ -28,42 +29,34 @@ pub record Accepted (o : Observation) (order unitsPerAmpere : ℕ) : Type 0 wher
   pub scale-ge : 1 ≤ unitsPerAmpere
   pub scale-le : unitsPerAmpere ≤ largestScale
 
+-- a number that is not outside a range
+inside : (least number most : ℕ) → not (leb least number && leb number most) ≡ false → (least ≤ number) × (number ≤ most)
+inside least number most e = go (leb least number) (leb number most) refl refl (not-false _ e)
+  where
+    go : (low high : Bool) → leb least number ≡ low → leb number most ≡ high → low && high ≡ true → (least ≤ number) × (number ≤ most)
+    go true true p q e = (leb-true _ _ p, leb-true _ _ q)
+    go true false p q e = absurd (true≢false (sym e))
+    go false high p q e = absurd (true≢false (sym e))
+
 module _ (o : Observation) (order unitsPerAmpere : ℕ) (accepted-call : verdictRefusal o order unitsPerAmpere ≡ noRefusal) where
   pub accepted : Accepted o order unitsPerAmpere
   unfolding verdictRefusal
   accepted =
-      go
-      (isSound o)
-      (eqb (o .windows) 0)
-      (leb firstJudged order)
-      (leb order orderCount)
-      (leb 1 unitsPerAmpere)
-      (leb unitsPerAmpere largestScale)
-      refl
-      refl
-      refl
-      refl
-      refl
-      refl
-      accepted-call
-    where
-      go : (sound none first last least most : Bool) → isSound o ≡ sound → eqb (o .windows) 0 ≡ none → leb firstJudged order ≡ first → leb order orderCount ≡ last → leb 1 unitsPerAmpere ≡ least → leb unitsPerAmpere largestScale ≡ most → cond (not sound) unsoundRecord (cond none noWindow (cond (not (first && last)) orderOutOfRange (cond (not (least && most)) scaleOutOfRange noRefusal))) ≡ noRefusal → Accepted o order unitsPerAmpere
-      go true false true true true true s n f l k m e =
-          let some = eqb-false (o .windows) 0 n in
-          record {
-            sound = s;
-            some-window = omega arith;
-            order-ge = leb-true _ _ f;
-            order-le = leb-true _ _ l;
-            scale-ge = leb-true _ _ k;
-            scale-le = leb-true _ _ m;
-          }
-      go true false true true true false s n f l k m e = absurd (eqb-false scaleOutOfRange noRefusal refl e)
-      go true false true true false most s n f l k m e = absurd (eqb-false scaleOutOfRange noRefusal refl e)
-      go true false true false least most s n f l k m e = absurd (eqb-false orderOutOfRange noRefusal refl e)
-      go true false false last least most s n f l k m e = absurd (eqb-false orderOutOfRange noRefusal refl e)
-      go true true first last least most s n f l k m e = absurd (eqb-false noWindow noRefusal refl e)
-      go false none first last least most s n f l k m e = absurd (eqb-false unsoundRecord noRefusal refl e)
+      let sound = no-fault (not (isSound o)) unsoundRecord _ (omega arith) accepted-call in
+      let window = no-fault (eqb (o .windows) 0) noWindow _ (omega arith) (sound .1) in
+      let judged = no-fault (not (leb firstJudged order && leb order orderCount)) orderOutOfRange _ (omega arith) (window .1) in
+      let scaled = no-fault (not (leb 1 unitsPerAmpere && leb unitsPerAmpere largestScale)) scaleOutOfRange _ (omega arith) (judged .1) in
+      let some = eqb-false (o .windows) 0 (window .0) in
+      let orders = inside firstJudged order orderCount (judged .0) in
+      let scales = inside 1 unitsPerAmpere largestScale (scaled .0) in
+      record {
+        sound = not-false _ (sound .0);
+        some-window = omega arith;
+        order-ge = orders .0;
+        order-le = orders .1;
+        scale-ge = scales .0;
+        scale-le = scales .1;
+      }
 
   pub accepted-given : verdictAnswer o order unitsPerAmpere ≡ Given (verdictOf o order unitsPerAmpere)
   unfolding verdictAnswer

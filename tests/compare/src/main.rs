@@ -1,9 +1,11 @@
 //! Compares the proved core, through its C interface, with the second program of `tests/reference`,
 //! call by call: spectra, all kinds, orders and systems, distortion, records, verdicts, columns and
 //! listings, on valid and on damaged arguments. Every buffer is compared after every call, refused
-//! ones too. The seed is fixed, so that a run can be repeated; another may be given as an argument.
+//! ones too. With the path of the built `harmlist` as its argument it compares that program instead,
+//! byte for byte. The seed is fixed, so that a run can be repeated.
 
 mod columns;
+mod harmlist;
 mod records;
 mod windows;
 
@@ -31,11 +33,17 @@ pub fn numbers<T, U>(
     (of_core, u32::from(reference::refusal::number_or_zero(reference)))
 }
 
+const SEED: u64 = 1;
+
 fn main() {
-    let seed = std::env::args().nth(1).map_or(1, |word| word.parse().expect("a seed"));
     let mut tally = Tally { compared: 0 };
-    windows::compare(&mut tally, seed);
-    records::compare(&mut tally, seed);
-    columns::compare(&mut tally, seed);
-    println!("{} comparisons with the second program, all alike (seed {seed})", tally.compared);
+    match std::env::args().nth(1) {
+        Some(program) => harmlist::compare(&mut tally, &program, SEED),
+        None => {
+            windows::compare(&mut tally, SEED);
+            records::compare(&mut tally, SEED);
+            columns::compare(&mut tally, SEED);
+        }
+    }
+    println!("{} comparisons with the second program, all alike", tally.compared);
 }

@@ -1,0 +1,76 @@
+/* The stack that each call of the core takes: the call runs on a thread whose stack was painted, and
+ * the painted bytes that it changed are counted. A call with no work gives what the thread itself
+ * takes, which is subtracted. */
+#define _GNU_SOURCE
+#include "kifsang.h"
+
+#include <pthread.h>
+#include <stdio.h>
+#include <string.h>
+
+#define STACK (1 << 20)
+
+static unsigned char stack[STACK] __attribute__((aligned(4096)));
+static int32_t window[KIFSANG_WINDOW_LENGTH];
+static uint64_t lines[KIFSANG_LINE_COUNT], record[KIFSANG_RECORD_WORDS], number;
+static uint32_t row[KIFSANG_ORDER_COUNT], verdict;
+static unsigned char text[KIFSANG_LISTING_ROOM];
+static int64_t signed_number;
+
+static void nothing(void) {}
+static void spectrum(void) { kifsang_spectrum(window, KIFSANG_WINDOW_LENGTH, 0, lines, KIFSANG_LINE_COUNT); }
+static void group_value(void) { kifsang_group_value(1, 10, 3, lines, KIFSANG_LINE_COUNT, &number); }
+static void whole_row(void) { kifsang_row(1, 10, lines, KIFSANG_LINE_COUNT, row, KIFSANG_ORDER_COUNT); }
+static void distortion(void) { kifsang_distortion(row, KIFSANG_ORDER_COUNT, &number); }
+static void fresh_record(void) { kifsang_fresh_record(10, record, KIFSANG_RECORD_WORDS); }
+static void add_row(void) { kifsang_add_row(record, KIFSANG_RECORD_WORDS, 10, row, KIFSANG_ORDER_COUNT); }
+static void judge(void) { kifsang_verdict(record, KIFSANG_RECORD_WORDS, 3, 1000000, &verdict); }
+static void read_column(void) { kifsang_read_column(text, KIFSANG_COLUMN_WIDTH, &signed_number); }
+static void write_column(void) { kifsang_write_column(text, KIFSANG_COLUMN_WIDTH, -7); }
+static void fill_listing(void)
+{
+    kifsang_fill_listing(row, KIFSANG_ORDER_COUNT, row, KIFSANG_ORDER_COUNT, row, KIFSANG_ORDER_COUNT, text,
+                         KIFSANG_LISTING_ROOM, &number);
+}
+
+static void *run(void *call)
+{
+    (*(void (**)(void))call)();
+    return NULL;
+}
+
+static size_t taken(void (*call)(void))
+{
+    pthread_attr_t attributes;
+    pthread_t thread;
+    size_t untouched = 0;
+    memset(stack, 0xA5, STACK);
+    pthread_attr_init(&attributes);
+    pthread_attr_setstack(&attributes, stack, STACK);
+    pthread_create(&thread, &attributes, run, &call);
+    pthread_join(thread, NULL);
+    while (untouched < STACK && stack[untouched] == 0xA5)
+        untouched++;
+    return STACK - untouched;
+}
+
+int main(void)
+{
+    static const struct {
+        const char *name;
+        void (*call)(void);
+    } calls[] = {
+        {"spectrum", spectrum},         {"group_value", group_value},   {"row", whole_row},
+        {"distortion", distortion},     {"fresh_record", fresh_record}, {"add_row", add_row},
+        {"verdict", judge},             {"write_column", write_column}, {"read_column", read_column},
+        {"fill_listing", fill_listing},
+    };
+    size_t thread = taken(nothing);
+    for (int i = 0; i < KIFSANG_WINDOW_LENGTH; i++)
+        window[i] = i % 97 * 1000 - 48000;
+    for (size_t i = 0; i < sizeof calls / sizeof calls[0]; i++) {
+        taken(calls[i].call); /* the first run also binds symbols */
+        printf("%-14s %6zu bytes of stack\n", calls[i].name, taken(calls[i].call) - thread);
+    }
+    return 0;
+}

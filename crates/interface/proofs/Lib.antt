@@ -1,0 +1,7 @@
+-- What the proofs of several exported functions use.
+pub mod ColumnCases
+pub mod GroupRow
+pub mod Handed
+pub mod ListingReceived
+pub mod RecordWords
+pub mod VerdictCases

@@ -1,0 +1,312 @@
+/*
+ * kifsang.h: the harmonic core of a power analyser, for C and C++ programs.
+ *
+ * From the samples of a mains current to its spectrum, its harmonic and interharmonic groups
+ * after IEC 61000-4-7, values smoothed over 1.5 s, and a verdict for each order against class A of
+ * IEC 61000-3-2. Each function is proved to answer what its definition says, for every input.
+ *
+ * The way of the data
+ *
+ *     kifsang_spectrum       a window of 2,048 samples    ->  512 lines
+ *     kifsang_row            the lines of a window        ->  the 40 values of a kind, a row
+ *     kifsang_add_row        a record and a row           ->  the record with one window more
+ *     kifsang_verdict        a record and an order        ->  within, close or over
+ *
+ * Formulas and units
+ *
+ *     A sample is a converter count, -131071..131071. A window is 2,048 samples at the rate at which
+ *     they hold `system` whole cycles of the mains: 10 at 50 Hz, 12 at 60 Hz; so a line is 5 Hz wide,
+ *     and line number k stands for the frequency k * 5 Hz.
+ *
+ *     A = round(sum over j of sample[j] * cosine[j * k] / 2^29)   cosine and sine are 2^30 times the
+ *     B = round(sum over j of sample[j] *   sine[j * k] / 2^29)   true ones, to the nearest
+ *     line[k] = A * A + B * B, at most 2^59                       halves are rounded up
+ *
+ *     A unit is 1/4096 of a sample count, r.m.s. Group values, smoothed values, their sums and their
+ *     peaks are in units. A group value is the whole part of the square root of the sum of
+ *     2 * weight * line over the lines of its kind, which are counted from system * order:
+ *
+ *         component                         0, weight 1
+ *         harmonic group                    -system/2 and system/2, weight 1/2; between them, weight 1
+ *         harmonic subgroup                 -1..1, weight 1
+ *         interharmonic group               1..system-1, weight 1
+ *         interharmonic centred subgroup    2..system-2, weight 1
+ *
+ * Order in buffers
+ *
+ *     Lines stand in the order of their numbers, line 0 first. The values of a row stand in the order
+ *     of the harmonic orders, order 1 at place 0 and order 40 at place 39.
+ *
+ * Memory and threads
+ *
+ *     The caller owns every buffer and lends it for the call; nothing is kept, nothing is allocated.
+ *     A pointer with a length stands for so many elements, aligned for their type. A buffer that a
+ *     call writes must overlap no other argument of that call. No pointer may be null; a length may
+ *     be 0. The calls share no state, so any threads may call at the same time on buffers of their own.
+ *     What the proofs assume of a caller is this paragraph and nothing else.
+ *
+ * Refusals
+ *
+ *     Each function returns KIFSANG_NO_REFUSAL, or the number of the first check that failed, in the
+ *     order listed with it. A refused call leaves every buffer as it was.
+ *
+ * Linking
+ *
+ *     With libinterface.a, which `rt staticlib interface` writes to target/staticlib, for x86-64 Linux.
+ *
+ * "Definition" names what the result is proved to equal, and the file that has it.
+ */
+#ifndef KIFSANG_H
+#define KIFSANG_H
+
+#include <stddef.h>
+#include <stdint.h>
+
+#ifdef __cplusplus
+extern "C" {
+#endif
+
+/* Lengths, and the unit. */
+#define KIFSANG_WINDOW_LENGTH 2048 /* samples in a window */
+#define KIFSANG_LINE_COUNT 512     /* lines of a spectrum */
+#define KIFSANG_ORDER_COUNT 40     /* values of a row: the orders 1..40 */
+#define KIFSANG_UNITS_PER_COUNT 4096 /* units in a sample count */
+#define KIFSANG_COLUMN_WIDTH 8     /* bytes of a number column */
+#define KIFSANG_LISTING_ROOM 1640  /* bytes that a listing may need */
+
+/* The places of a record's parts among its words. The last three are the first of 40 places each. */
+#define KIFSANG_SYSTEM_PLACE 0
+#define KIFSANG_WINDOWS_PLACE 1
+#define KIFSANG_SMOOTHED_PLACE 2
+#define KIFSANG_SUM_PLACE (KIFSANG_SMOOTHED_PLACE + KIFSANG_ORDER_COUNT)
+#define KIFSANG_PEAK_PLACE (KIFSANG_SUM_PLACE + KIFSANG_ORDER_COUNT)
+#define KIFSANG_RECORD_WORDS (KIFSANG_PEAK_PLACE + KIFSANG_ORDER_COUNT)
+
+/* Why a call did nothing. */
+enum kifsang_refusal {
+    KIFSANG_NO_REFUSAL = 0,           /* the call worked */
+    KIFSANG_UNKNOWN_SYSTEM = 1,       /* the system is neither 10 nor 12 */
+    KIFSANG_SHORT_WINDOW = 2,         /* fewer than 2,048 samples from the start */
+    KIFSANG_SAMPLE_OUT_OF_RANGE = 3,  /* a sample of the window is outside -131071..131071 */
+    KIFSANG_WRONG_LINE_COUNT = 4,     /* a buffer of lines that does not hold 512 */
+    KIFSANG_LINE_TOO_LARGE = 5,       /* a line above 2^59 */
+    KIFSANG_ORDER_OUT_OF_RANGE = 6,   /* an order outside the orders of the call */
+    KIFSANG_UNSOUND_RECORD = 7,       /* words that no list of calls can have left */
+    KIFSANG_OTHER_SYSTEM = 8,         /* a row whose system is not the record's */
+    KIFSANG_RECORD_FULL = 9,          /* the record holds 45,000 windows */
+    KIFSANG_NO_WINDOW = 10,           /* the record holds no window yet */
+    KIFSANG_SCALE_OUT_OF_RANGE = 11,  /* units per ampere outside 1..2^28 */
+    KIFSANG_NO_FUNDAMENTAL = 12,      /* the value of order 1 is 0 */
+    KIFSANG_NOT_A_COLUMN = 13,        /* no number column, or a number wider than its column */
+    KIFSANG_WRONG_BUFFER_LENGTH = 14, /* a text buffer of the wrong length */
+    KIFSANG_UNKNOWN_KIND = 101,       /* a number that stands for no kind */
+    KIFSANG_WRONG_WORD_COUNT = 102    /* not 40 words for a row, or not 122 for a record */
+};
+
+/* Which lines a group has. */
+enum kifsang_kind {
+    KIFSANG_COMPONENT = 0,
+    KIFSANG_HARMONIC_GROUP = 1,
+    KIFSANG_HARMONIC_SUBGROUP = 2,
+    KIFSANG_INTERHARMONIC_GROUP = 3,
+    KIFSANG_INTERHARMONIC_CENTRED_SUBGROUP = 4
+};
+
+/* How an order stands to its limit. */
+enum kifsang_verdict_number {
+    KIFSANG_WITHIN = 0,
+    KIFSANG_CLOSE = 1,
+    KIFSANG_OVER = 2
+};
+
+/* A length is 64 bits wide, and a record is 122 words. */
+typedef char kifsang_assert_lengths_of_64_bits[sizeof(size_t) == 8 ? 1 : -1];
+typedef char kifsang_assert_record_of_122_words[KIFSANG_RECORD_WORDS == 122 ? 1 : -1];
+
+/*
+ * Works out the spectral lines of a window.
+ *
+ *   recording         in    recording_length samples, in counts; only the window is looked at
+ *   recording_length  in    samples of the recording, any
+ *   start             in    the place of the window's first sample, any
+ *   lines             out   line_count lines
+ *   line_count        in    512
+ *
+ * Refusals: 2 fewer than 2,048 samples from the start; 4 line_count is not 512; 3 a sample of the
+ *   window outside -131071..131071. A refused call leaves the lines as they were.
+ * Proved error: A and B of each line are each at most 3/4 from those with the exact cosine and sine,
+ *   unrounded (cosine-sum-near and sine-sum-near, crates/spectrum/proofs/Distance.antt).
+ * Definition: spectrumRefusal and spectrumBuffer, crates/spectrum/specs/Spectrum.antt.
+ */
+uint32_t kifsang_spectrum(const int32_t *recording, size_t recording_length, size_t start,
+                          uint64_t *lines, size_t line_count);
+
+/*
+ * Works out one group value.
+ *
+ *   kind        in    0..4, an enum kifsang_kind
+ *   system      in    10 or 12 cycles in the window
+ *   order       in    1..40
+ *   lines       in    line_count lines, each at most 2^59
+ *   line_count  in    512
+ *   value       out   one number, in units, below 2^32
+ *
+ * Refusals: 101 no such kind; 1 system not 10 or 12; 6 order outside 1..40; 4 line_count is not 512;
+ *   5 a line above 2^59. A refused call leaves the value as it was.
+ * Proved error: for the lines of a window in range the value is at most 7 units from the exact group
+ *   (demand3, crates/accuracy/proofs/Demand3.antt).
+ * Definition: groupCallRefusal and groupCallValue, crates/interface/specs/GroupCalls.antt.
+ */
+uint32_t kifsang_group_value(uint32_t kind, uint32_t system, uint32_t order, const uint64_t *lines,
+                             size_t line_count, uint64_t *value);
+
+/*
+ * Works out the 40 group values of a kind, a row.
+ *
+ *   kind         in    0..4, an enum kifsang_kind
+ *   system       in    10 or 12 cycles in the window
+ *   lines        in    line_count lines, each at most 2^59
+ *   line_count   in    512
+ *   values       out   value_count values, in units
+ *   value_count  in    40
+ *
+ * Refusals: 101 no such kind; 102 value_count is not 40; 1 system not 10 or 12; 4 line_count is not
+ *   512; 5 a line above 2^59. A refused call leaves the values as they were.
+ * Proved error: that of kifsang_group_value, for each order.
+ * Definition: rowCallRefusal and rowCallValues, crates/interface/specs/GroupCalls.antt.
+ */
+uint32_t kifsang_row(uint32_t kind, uint32_t system, const uint64_t *lines, size_t line_count,
+                     uint32_t *values, size_t value_count);
+
+/*
+ * Works out the group distortion of a row: the largest whole t with t^2 * value[0]^2 at most 1000000
+ * times the sum of the squares of value[1]..value[39].
+ *
+ *   values              in    value_count values, in units
+ *   value_count         in    40
+ *   parts_per_thousand  out   one number, in parts per thousand of the value of order 1, below 2^45
+ *
+ * Refusals: 102 value_count is not 40; 12 the value of order 1 is 0. A refused call leaves
+ *   parts_per_thousand as it was.
+ * Proved error: none, t is exact for the values that are given.
+ * Definition: distortionCallRefusal and distortionCallValue, crates/interface/specs/GroupCalls.antt.
+ */
+uint32_t kifsang_distortion(const uint32_t *values, size_t value_count,
+                            uint64_t *parts_per_thousand);
+
+/*
+ * Begins an observation: a record of a system with no window.
+ *
+ *   system        in    10 or 12 cycles in a window
+ *   record        out   record_words words, at the places above
+ *   record_words  in    122
+ *
+ * Refusals: 102 record_words is not 122; 1 system not 10 or 12. A refused call leaves the record as
+ *   it was.
+ * Proved error: none.
+ * Definition: freshCallRefusal and freshCallWords, crates/interface/specs/RecordCalls.antt.
+ */
+uint32_t kifsang_fresh_record(uint32_t system, uint64_t *record, size_t record_words);
+
+/*
+ * Adds the row of one window to a record. The first row becomes the smoothed values; later
+ * smoothed = (1000 * new + 7012 * old) / 8012, to the nearest, halves up. The smoothed values are
+ * added to the sums, and the peaks become the greater of themselves and the smoothed values.
+ *
+ *   record        inout  record_words words; any words may be handed over
+ *   record_words  in     122
+ *   system        in     the row's: 10 or 12 cycles in a window
+ *   values        in     value_count values, in units
+ *   value_count   in     40
+ *
+ * Refusals: 102 record_words is not 122 or value_count is not 40; 7 the record is not sound; 1 system
+ *   not 10 or 12; 8 another system than the record's; 9 the record holds 45,000 windows. A refused
+ *   call leaves the record as it was.
+ * Proved error: after any list of calls from a fresh record, with rows of one kind worked from
+ *   windows in range, each smoothed value is at most 12 units from the exact one (demand3,
+ *   crates/accuracy/proofs/Demand3.antt).
+ * Definition: addRowCallRefusal and addRowCallWords, crates/interface/specs/RecordCalls.antt.
+ */
+uint32_t kifsang_add_row(uint64_t *record, size_t record_words, uint32_t system,
+                         const uint32_t *values, size_t value_count);
+
+/*
+ * Judges an order against its class A limit: the average of its smoothed values against the limit,
+ * their peak against 150 % of it.
+ *
+ *   record            in    record_words words; any words may be handed over
+ *   record_words      in    122
+ *   order             in    2..40
+ *   units_per_ampere  in    1..268435456, the units that one ampere r.m.s. gives
+ *   verdict           out   one number, an enum kifsang_verdict_number
+ *
+ * Refusals: 102 record_words is not 122; 7 the record is not sound; 10 no window yet; 6 order outside
+ *   2..40; 11 units_per_ampere outside 1..2^28. A refused call leaves the verdict as it was.
+ * Proved error: after a list of calls as above, within and over hold for the exact average and peak
+ *   too; close is given only where a value is at most 12 units from its limit (demand3,
+ *   crates/accuracy/proofs/Demand3.antt).
+ * Definition: verdictCallRefusal and verdictCallNumber, crates/interface/specs/RecordCalls.antt.
+ */
+uint32_t kifsang_verdict(const uint64_t *record, size_t record_words, uint32_t order,
+                         uint32_t units_per_ampere, uint32_t *verdict);
+
+/*
+ * Reads a number column: 8 bytes, right-justified, blanks before, a minus directly before the
+ * digits, no leading zero but the single 0, no -0.
+ *
+ *   text         in    text_length bytes of ASCII, not terminated
+ *   text_length  in    8
+ *   number       out   one number, -9999999..99999999
+ *
+ * Refusals: 13 text_length is not 8, or the text is not of the form. A refused call leaves the number
+ *   as it was.
+ * Proved error: none.
+ * Definition: columnReadOf, crates/columns/specs/Calls.antt, and columnCallNumber,
+ *   crates/interface/specs/ColumnCalls.antt.
+ */
+uint32_t kifsang_read_column(const uint8_t *text, size_t text_length, int64_t *number);
+
+/*
+ * Writes a number column, of the form that kifsang_read_column reads.
+ *
+ *   buffer         out   buffer_length bytes of ASCII, not terminated
+ *   buffer_length  in    8
+ *   number         in    -9999999..99999999
+ *
+ * Refusals: 14 buffer_length is not 8; 13 the number is wider than 8 bytes. A refused call leaves the
+ *   buffer as it was.
+ * Proved error: none.
+ * Definition: columnWriteFault and columnWritten, crates/columns/specs/Calls.antt.
+ */
+uint32_t kifsang_write_column(uint8_t *buffer, size_t buffer_length, int64_t number);
+
+/*
+ * Fills a buffer with the listing of three rows: a header, and a line of 40 bytes for each order of
+ * which a value is not 0, and for order 1 always.
+ *
+ *   group           in    group_count values of the harmonic groups, in units
+ *   group_count     in    40
+ *   subgroup        in    subgroup_count values of the harmonic subgroups, in units
+ *   subgroup_count  in    40
+ *   smoothed        in    smoothed_count smoothed values, in units
+ *   smoothed_count  in    40
+ *   buffer          out   buffer_length bytes of ASCII, not terminated; bytes after the listing stay
+ *   buffer_length   in    1640 or more
+ *   written         out   one number, the bytes of the listing, 80..1640
+ *
+ * Refusals: 102 one of the three counts is not 40; 14 buffer_length below 1640. A refused call leaves
+ *   the buffer and written as they were.
+ * Proved error: none.
+ * Definition: listingCallRefusal, listingCallBytes and listingCallCount,
+ *   crates/interface/specs/ListingCall.antt.
+ */
+uint32_t kifsang_fill_listing(const uint32_t *group, size_t group_count, const uint32_t *subgroup,
+                              size_t subgroup_count, const uint32_t *smoothed,
+                              size_t smoothed_count, uint8_t *buffer, size_t buffer_length,
+                              uint64_t *written);
+
+#ifdef __cplusplus
+}
+#endif
+
+#endif

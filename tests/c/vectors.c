@@ -1,0 +1,223 @@
+/* Runs the core, through its C interface, on the test cases that the second program prints
+ * (`reference vectors SEED`, tests/reference/README.md has their form), and compares every answer
+ * and every buffer. Reads standard input; ends with status 1 at the first difference. */
+#include "kifsang.h"
+
+#include <inttypes.h>
+#include <stdio.h>
+#include <stdlib.h>
+#include <string.h>
+
+#define MOST_NUMBERS 100000
+
+static uint64_t number[MOST_NUMBERS]; /* of the present line; one with a minus as its 64 bits */
+static size_t count;
+static unsigned long line_number, compared;
+
+static int32_t recording[MOST_NUMBERS];
+static size_t recording_length;
+static uint64_t lines[MOST_NUMBERS], record[KIFSANG_RECORD_WORDS], expected_record[KIFSANG_RECORD_WORDS];
+static size_t line_count;
+static uint32_t listing_values[3][KIFSANG_ORDER_COUNT];
+static int lines_are_ours; /* the next `lines` are the result of the last spectrum */
+static int record_is_ours; /* the next `record` is the result of the last call */
+
+static void same(const char *what, uint64_t core, uint64_t expected)
+{
+    compared++;
+    if (core == expected)
+        return;
+    printf("line %lu, %s: the core gives %" PRIu64 ", the second program %" PRIu64 "\n", line_number, what,
+           core, expected);
+    exit(1);
+}
+
+static void same_words(const char *what, const uint64_t *core, const uint64_t *expected, size_t words)
+{
+    for (size_t i = 0; i < words; i++)
+        same(what, core[i], expected[i]);
+}
+
+static void take_row(uint32_t row[KIFSANG_ORDER_COUNT], const uint64_t *from)
+{
+    for (size_t i = 0; i < KIFSANG_ORDER_COUNT; i++)
+        row[i] = (uint32_t)from[i];
+}
+
+static void on_recording(void)
+{
+    recording_length = count;
+    for (size_t i = 0; i < count; i++)
+        recording[i] = (int32_t)(int64_t)number[i];
+}
+
+static void on_spectrum(void)
+{
+    line_count = (size_t)number[1];
+    for (size_t i = 0; i < line_count; i++)
+        lines[i] = 7;
+    uint32_t refusal = kifsang_spectrum(recording, recording_length, (size_t)number[0], lines, line_count);
+    same("spectrum", refusal, number[2]);
+    lines_are_ours = refusal == KIFSANG_NO_REFUSAL;
+    for (size_t i = 0; !lines_are_ours && i < line_count; i++)
+        same("the buffer of a refused spectrum", lines[i], 7);
+}
+
+static void on_lines(void)
+{
+    if (lines_are_ours) {
+        same("count of lines", line_count, count);
+        same_words("line", lines, number, count);
+    }
+    lines_are_ours = 0;
+    line_count = count;
+    memcpy(lines, number, count * sizeof *lines);
+}
+
+static void on_groups(void)
+{
+    uint32_t row[KIFSANG_ORDER_COUNT];
+    uint32_t kind = (uint32_t)number[0] - 1;
+    same("row", kifsang_row(kind, (uint32_t)number[1], lines, line_count, row, KIFSANG_ORDER_COUNT), 0);
+    for (uint32_t order = 1; order <= KIFSANG_ORDER_COUNT; order++) {
+        uint64_t value = 0;
+        same("group", kifsang_group_value(kind, (uint32_t)number[1], order, lines, line_count, &value), 0);
+        same("group value", value, number[1 + order]);
+        same("value in a row", row[order - 1], value);
+    }
+}
+
+static void on_group(void)
+{
+    uint64_t value = 0;
+    if (number[1] > UINT32_MAX || number[2] > UINT32_MAX)
+        return;
+    same("group", kifsang_group_value((uint32_t)number[0] - 1, (uint32_t)number[1], (uint32_t)number[2], lines, line_count, &value), number[3]);
+    same("group value", value, number[4]);
+}
+
+static void on_distortion(void)
+{
+    uint32_t row[KIFSANG_ORDER_COUNT];
+    uint64_t parts = 0;
+    take_row(row, number + 2);
+    same("distortion", kifsang_distortion(row, KIFSANG_ORDER_COUNT, &parts), number[0]);
+    same("parts per thousand", parts, number[1]);
+}
+
+static void on_fresh(void)
+{
+    if (number[0] > UINT32_MAX)
+        return;
+    uint32_t refusal = kifsang_fresh_record((uint32_t)number[0], record, KIFSANG_RECORD_WORDS);
+    same("fresh record", refusal, number[1]);
+    record_is_ours = refusal == KIFSANG_NO_REFUSAL;
+}
+
+static void on_add_row(void)
+{
+    uint32_t row[KIFSANG_ORDER_COUNT];
+    if (number[1] > UINT32_MAX)
+        return;
+    take_row(row, number + 2);
+    same("add row", kifsang_add_row(record, KIFSANG_RECORD_WORDS, (uint32_t)number[1], row, KIFSANG_ORDER_COUNT), number[0]);
+    record_is_ours = 1;
+}
+
+static void on_record(void)
+{
+    if (record_is_ours)
+        same_words("record", record, number, KIFSANG_RECORD_WORDS);
+    record_is_ours = 0;
+    memcpy(record, number, sizeof record);
+    memcpy(expected_record, number, sizeof record);
+}
+
+static void on_verdict(void)
+{
+    uint32_t verdict = 9;
+    if (number[0] > UINT32_MAX || number[1] > UINT32_MAX)
+        return;
+    same("verdict", kifsang_verdict(record, KIFSANG_RECORD_WORDS, (uint32_t)number[0], (uint32_t)number[1], &verdict), number[2]);
+    same("outcome", verdict, number[3] == 0 ? 9 : number[3] - 1);
+    same_words("the record after a verdict", record, expected_record, KIFSANG_RECORD_WORDS);
+}
+
+static void on_column_read(void)
+{
+    static unsigned char text[MOST_NUMBERS];
+    int64_t value = 0;
+    for (size_t i = 2; i < count; i++)
+        text[i - 2] = (unsigned char)number[i];
+    same("column read", kifsang_read_column(text, count - 2, &value), number[0]);
+    same("number read", (uint64_t)value, number[1]);
+}
+
+static void on_column_write(void)
+{
+    static unsigned char buffer[MOST_NUMBERS];
+    memset(buffer, '#', count);
+    same("column write", kifsang_write_column(buffer, count - 2, (int64_t)number[0]), number[1]);
+    for (size_t i = 2; i < count; i++)
+        same("byte of a column", buffer[i - 2], number[i]);
+}
+
+static void on_listing_values(void)
+{
+    for (size_t row = 0; row < 3; row++)
+        take_row(listing_values[row], number + row * KIFSANG_ORDER_COUNT);
+}
+
+static void on_listing(void)
+{
+    static unsigned char buffer[MOST_NUMBERS];
+    uint64_t written = 0;
+    memset(buffer, '#', count);
+    same("listing",
+         kifsang_fill_listing(listing_values[0], KIFSANG_ORDER_COUNT, listing_values[1], KIFSANG_ORDER_COUNT,
+                              listing_values[2], KIFSANG_ORDER_COUNT, buffer, count - 2, &written),
+         number[0]);
+    same("bytes of a listing", written, number[1]);
+    for (size_t i = 2; i < count; i++)
+        same("byte of a listing", buffer[i - 2], number[i]);
+}
+
+static const struct {
+    const char *word;
+    void (*run)(void);
+} cases[] = {
+    {"recording", on_recording},     {"spectrum", on_spectrum},
+    {"lines", on_lines},             {"groups", on_groups},
+    {"group", on_group},             {"distortion", on_distortion},
+    {"fresh", on_fresh},             {"add_row", on_add_row},
+    {"record", on_record},           {"verdict", on_verdict},
+    {"column_read", on_column_read}, {"column_write", on_column_write},
+    {"listing_values", on_listing_values}, {"listing", on_listing},
+};
+
+int main(void)
+{
+    static char text[1 << 22];
+    while (fgets(text, sizeof text, stdin) != NULL) {
+        line_number++;
+        if (text[0] == '#' || text[0] == '\n')
+            continue;
+        char *word = strtok(text, " \n");
+        char *rest = strtok(NULL, " \n");
+        size_t wanted = rest == NULL ? 0 : (size_t)strtoull(rest, NULL, 10);
+        for (count = 0; count < MOST_NUMBERS && (rest = strtok(NULL, " \n")) != NULL; count++)
+            number[count] = rest[0] == '-' ? (uint64_t)strtoll(rest, NULL, 10) : strtoull(rest, NULL, 10);
+        same("count of numbers", count, wanted);
+        size_t i = 0;
+        while (i < sizeof cases / sizeof cases[0] && strcmp(cases[i].word, word) != 0)
+            i++;
+        same("known word", i < sizeof cases / sizeof cases[0], 1);
+        cases[i].run();
+    }
+    if (compared == 0) {
+        puts("no test case was read");
+        return 1;
+    }
+    printf("%lu comparisons in C with the second program, all alike\n", compared);
+    return 0;
+}
