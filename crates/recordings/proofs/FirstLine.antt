@@ -1,0 +1,57 @@
+-- The reading after the first line, by the number on it. Assumes nothing.
+use mathlib.Core.Bool.{Bool, true, false, cond, not}
+use mathlib.Core.List.{List}
+use mathlib.Core.Option.{Option, none, some}
+use mathlib.Core.Path.{_≡_, refl, sym, _∙_}
+use Prim.Native.Nat.{ℕ, _<_, _≤_}
+use native.Mathlib.Decide.{decLt}
+use native.Mathlib.Omega.{arith}
+use borrow.Author.Tests.{ne-eqb, lt-ltb, le-ltb}
+use lib.Dec.{ltb}
+use lib.IntN.{ℤ, pos, negsuc}
+use Rattle.refusals.specs.Numbers.{noRefusal, notAColumn, unknownSystem}
+use Rattle.columns.specs.Calls.{readingOf}
+use Rattle.groups.specs.Group.{isSystem}
+use Rattle.observation.specs.Calls.{emptyRecord, refusedSystem, freshRefusal, freshAnswer}
+use Rattle.recordings.specs.Lines.{lineAt, lineNumber, numberOr0, numberAt}
+use Rattle.recordings.specs.Faults.{isNone, noSystem, lineFault}
+use Rattle.recordings.specs.Output.{systemIn}
+use Rattle.recordings.specs.Reading.{beginOf}
+use Rattle.recordings.specs.Steps.{systemWord, readingOfNone}
+
+-- a number that is none as a system is none as a word either
+no-large-system : (n : ℕ) → 99 < n → isSystem n ≡ false
+unfolding isSystem
+no-large-system n h = rw (ne-eqb n 10 (λ e. omega arith), ne-eqb n 12 (λ e. omega arith))
+
+zero-no-system : isSystem 0 ≡ false
+unfolding isSystem
+zero-no-system = refl
+
+-- the fault of the first line
+pub first-line-fault : (line : List ℕ) → lineFault line 0 ≡ cond (isNone (lineNumber (lineAt line 0))) notAColumn (cond (noSystem (numberAt line 0)) unknownSystem noRefusal)
+unfolding lineFault
+first-line-fault line = refl
+
+module _ (line : List ℕ) where
+  pub begin-without-number : lineNumber (lineAt line 0) ≡ none → readingOfNone notAColumn (freshAnswer (systemWord (pos 0)) .observation) ≡ beginOf line
+  unfolding beginOf readingOfNone lineFault isNone systemWord freshAnswer freshRefusal isSystem
+  begin-without-number e = rw e
+
+  pub begin-with-number : (z : ℤ) → lineNumber (lineAt line 0) ≡ some z → readingOfNone (freshAnswer (systemWord z) .refusal) (freshAnswer (systemWord z) .observation) ≡ beginOf line
+  unfolding beginOf readingOfNone lineFault isNone systemWord numberAt numberOr0 systemIn noSystem freshAnswer freshRefusal
+  begin-with-number (pos n) e = by-size (decLt 99 n)
+    where
+      by-size : Dec (99 < n) → readingOfNone (freshAnswer (systemWord (pos n)) .refusal) (freshAnswer (systemWord (pos n)) .observation) ≡ beginOf line
+      by-size (yes h) = rw (e, lt-ltb 99 n h, no-large-system n h, zero-no-system)
+      by-size (no f) = rw (e, le-ltb 99 n (omega arith))
+  begin-with-number (negsuc n) e = rw (e, zero-no-system)
+
+  -- by what the line was read as
+  pub begin-refused : (o : Option ℤ) → lineNumber (lineAt line 0) ≡ o → (readingOf o .refusal ≡ noRefusal → ⊥) → readingOfNone (readingOf o .refusal) (freshAnswer (systemWord (readingOf o .value)) .observation) ≡ beginOf line
+  begin-refused none e f = begin-without-number e
+  begin-refused (some z) e f = absurd (f refl)
+
+  pub begin-taken : (o : Option ℤ) → lineNumber (lineAt line 0) ≡ o → readingOf o .refusal ≡ noRefusal → readingOfNone (freshAnswer (systemWord (readingOf o .value)) .refusal) (freshAnswer (systemWord (readingOf o .value)) .observation) ≡ beginOf line
+  begin-taken none e z = absurd (omega arith)
+  begin-taken (some z) e h = begin-with-number z e

@@ -1,0 +1,67 @@
+-- `recordings::blocks::begin` meets its contract, by what the first line was read as. Assumes nothing.
+use mathlib.Core.List.{List}
+use mathlib.Core.Path.{_≡_, refl, sym, ap, _∙_}
+use Prim.Native.Nat.{ℕ}
+use borrow.Author.Needs.{needs}
+use mir.Facts.{toZ-ofZ}
+use mir.Syntax.{w64}
+use Rattle.columns.specs.declared.Number.{Number}
+use Rattle.columns.specs.Calls.{readingOf}
+use Rattle.observation.specs.declared.Recorded.{Recorded}
+use Rattle.observation.specs.Calls.{freshAnswer}
+use Rattle.recordings.specs.Lines.{lineAt, lineNumber}
+use Rattle.recordings.specs.Steps.{systemWord, readingOfNone}
+use Rattle.recordings.proofs.FirstLine.{begin-refused, begin-taken}
+use Rattle.recordings.proofs.blocks.begin.Statement.{statement}
+use Rattle.recordings.proofs.blocks.begin.Tie as tie
+
+number-on-line-requires : tie.Need-number-on-line-requires
+number-on-line-requires c κs = search needs
+
+system-word-requires : tie.Need-system-word-requires
+system-word-requires c κs = search needs
+
+fresh-record-requires : tie.Need-fresh-record-requires
+fresh-record-requires c κs = search needs
+
+-- the fresh record is that of the number that was read
+fresh-is : (c : tie.After-fresh-record) → c .fresh-record .result ≡ freshAnswer (systemWord (c .before .before .before .number-on-line .result .value))
+fresh-is c =
+    let value = toZ-ofZ {w = w64} {z = c .before .before .before .number-on-line .result .value} (record { sfits = c .before .before .struct-told .given .1 .0 .1 }) in
+    c .fresh-record .ensures ∙ ap freshAnswer (c .before .system-word .ensures ∙ ap systemWord value)
+
+reading-of-none-requires : tie.Need-reading-of-none-requires
+reading-of-none-requires c κs = search needs
+
+returns : tie.Need-returns
+returns c =
+    let line = c .before .before .before .before .before .before .before .before .before .args .line .now in
+    let read = c .before .before .before .before .before .before .before .number-on-line in
+    let o = lineNumber (lineAt line 0) in
+    c .reading-of-none .ensures
+    ∙ rw (fresh-is (c .before .before .before .before), read .ensures)
+    (begin-refused line o refl (λ z. c .before .if1 .taken (ap (λ (n : Number). n .refusal) (read .ensures) ∙ z)))
+
+reading-of-none-requires-2 : tie.Need-reading-of-none-requires-2
+reading-of-none-requires-2 c κs = search needs
+
+returns-2 : tie.Need-returns-2
+returns-2 c =
+    let line = c .before .before .before .before .before .before .before .before .before .args .line .now in
+    let read = c .before .before .before .before .before .before .before .number-on-line in
+    let o = lineNumber (lineAt line 0) in
+    c .reading-of-none2 .ensures
+    ∙ rw (fresh-is (c .before .before .before .before), read .ensures)
+    (begin-taken line o refl (sym (ap (λ (n : Number). n .refusal) (read .ensures)) ∙ c .before .if1 .left))
+
+pub begin-spec : {M : Type 1} → statement M
+begin-spec =
+    tie.close
+    (tie.spec
+    number-on-line-requires
+    system-word-requires
+    fresh-record-requires
+    reading-of-none-requires
+    returns
+    reading-of-none-requires-2
+    returns-2)

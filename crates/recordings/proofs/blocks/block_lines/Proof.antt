@@ -1,0 +1,19 @@
+-- `recordings::blocks::block_lines` meets its contract. Assumes nothing.
+use mathlib.Core.Path.{_≡_, refl}
+use native.Mathlib.Omega.{arith}
+use borrow.Author.Needs.{needs}
+use Rattle.recordings.proofs.BlockLaws.{lines-of-whole, lines-of-short}
+use Rattle.recordings.proofs.blocks.block_lines.Statement.{statement}
+use Rattle.recordings.proofs.blocks.block_lines.Tie as tie
+
+returns : tie.Need-returns
+returns c = rw (lines-of-whole (c .before .args .block .now) (c .if1 .taken))
+
+add-result : tie.Need-add-result
+add-result c = search needs
+
+returns-2 : tie.Need-returns-2
+returns-2 c = rw (lines-of-short (c .before .args .block .now) (c .if1 .left))
+
+pub block-lines-spec : {M : Type 1} → statement M
+block-lines-spec = tie.close (tie.spec returns add-result returns-2)

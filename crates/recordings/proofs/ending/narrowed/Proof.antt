@@ -1,0 +1,76 @@
+-- `recordings::ending::narrowed` meets its contract. The loop's invariant: the first i values are those of the argument.
+-- The measure is the count of values that are left. Assumes nothing.
+use mathlib.Core.Path.{_≡_, refl, _∙_}
+use Prim.Native.Nat.{_-_, _≤_, _<_}
+use native.Mathlib.Omega.{arith}
+use borrow.Author.Needs.{needs}
+use lib.ListN.{length, getD, replicate}
+use Rattle.algebra.specs.Lists.{tabulate}
+use Rattle.observation.specs.Soundness.{largestValue}
+use Rattle.observation.proofs.Filling.{Filled, filled-more, filled-whole}
+use Rattle.observation.proofs.NoneAbove.{getD-le-of-none-above}
+use Rattle.recordings.proofs.Output.{tabulate-whole}
+use Rattle.recordings.proofs.ending.narrowed.Statement.{statement}
+use Rattle.recordings.proofs.ending.narrowed.Tie as tie
+
+abbrev Inv-loop : tie.InvT-loop
+Inv-loop values narrow₀ i₀ narrow i = (i ≤ 40) × Filled i (λ j. getD values j 0) narrow₀ narrow
+
+abbrev μ-loop : tie.MeasureT-loop
+μ-loop values narrow₀ i₀ narrow i = 40 - i
+
+loop-holds : tie.Need-loop-holds Inv-loop μ-loop
+unfolding tabulate
+loop-holds c = (omega arith, refl)
+
+mul-narrow : tie.Need-mul-narrow Inv-loop μ-loop
+mul-narrow c = search needs
+
+array-read-narrow : tie.Need-array-read-narrow Inv-loop μ-loop
+array-read-narrow c = search needs
+
+cast-narrow : tie.Need-cast-narrow Inv-loop μ-loop
+cast-narrow c =
+    record { fits = omega (arith, getD-le-of-none-above largestValue _ (c .before .loop .i) (c .before .before .pre)) }
+
+mul-narrow-2 : tie.Need-mul-narrow-2 Inv-loop μ-loop
+mul-narrow-2 c = search needs
+
+array-write-narrow : tie.Need-array-write-narrow Inv-loop μ-loop
+array-write-narrow c = search needs
+
+add-i : tie.Need-add-i Inv-loop μ-loop
+add-i c = search needs
+
+loop-less : tie.Need-loop-less Inv-loop μ-loop
+loop-less c = search needs
+
+loop-again : tie.Need-loop-again Inv-loop μ-loop
+loop-again c =
+    let inside : c .before .loop .i < 40 = omega arith in
+    (omega arith, filled-more _ _ (replicate 40 0) _ (c .before .loop .inv .1) _ inside refl)
+
+returns : tie.Need-returns Inv-loop μ-loop
+returns c =
+    let values = c .before .before .args .t1 in
+    let end : c .before .loop .i ≡ 40 = omega arith in
+    let long : length values ≡ 40 = search needs in
+    filled-whole 40 (λ j. getD values j 0) (replicate 40 0) _ (rw end at (c .before .loop .inv .1)) refl
+    ∙ tabulate-whole values 40 long
+
+pub narrowed-spec : {M : Type 1} → statement M
+narrowed-spec =
+    tie.close
+    (tie.spec
+    Inv-loop
+    μ-loop
+    loop-holds
+    mul-narrow
+    array-read-narrow
+    cast-narrow
+    mul-narrow-2
+    array-write-narrow
+    add-i
+    loop-less
+    loop-again
+    returns)

@@ -1,0 +1,20 @@
+-- `recordings::ending::put_listing` meets its contract: a sound record's smoothed values fit 32 bits. Assumes nothing.
+use borrow.Author.Needs.{needs}
+use Rattle.recordings.proofs.Written.{sound-smoothed}
+use Rattle.recordings.proofs.ending.put_listing.Statement.{statement}
+use Rattle.recordings.proofs.ending.put_listing.Tie as tie
+
+narrowed-requires : tie.Need-narrowed-requires
+narrowed-requires c κs = sound-smoothed (c .before .before .before .before .before .args .reading .observation) (c .before .before .before .before .before .pre)
+
+fill-listing-requires : tie.Need-fill-listing-requires
+fill-listing-requires c κs = search needs
+
+same-length : tie.Need-same-length
+same-length c = search needs
+
+returns : tie.Need-returns
+returns c = rw (c .before .before .before .before .before .before .before .narrowed .ensures) at (c .before .before .fill-listing .ensures)
+
+pub put-listing-spec : {M : Type 1} → statement M
+put-listing-spec = tie.close (tie.spec narrowed-requires fill-listing-requires same-length returns)

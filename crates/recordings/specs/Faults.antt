@@ -1,0 +1,58 @@
+-- The first fault of an input in input order (document 01, "Columns and the listing").
+use mathlib.Core.Bool.{Bool, true, false, cond, not, _&&_}
+use mathlib.Core.List.{List, [], _∷_}
+use mathlib.Core.Option.{Option, none, some}
+use Prim.Native.Nat.{ℕ, zero, suc, _+_, _-_, _*_, _%_}
+use lib.Dec.{eqb}
+use lib.IntN.{ℤ, pos, negsuc}
+use Rattle.refusals.specs.Numbers.{noRefusal, notAColumn, unknownSystem, sampleOutOfRange, recordFull, noWindow, shortWindow}
+use Rattle.refusals.specs.Answers.{firstFault}
+use Rattle.spectrum.specs.Line.{windowLength}
+use Rattle.spectrum.specs.Spectrum.{outOfRange}
+use Rattle.groups.specs.Group.{isSystem}
+use Rattle.observation.specs.Soundness.{mostWindows}
+use Rattle.recordings.specs.Lines.{lineCountOf, lineAt, lineNumber, numberAt}
+
+-- a number that is no system; one with a minus is none
+unfoldable pub noSystem : ℤ → Bool
+noSystem (pos n) = not (isSystem n)
+noSystem (negsuc n) = true
+
+-- there is no number on the line
+unfoldable pub isNone : Option ℤ → Bool
+isNone none = true
+isNone (some z) = false
+
+-- "13 for another line (also one without its newline) .., 1, 3, 9 at the last line of window 45,001, and two on one line in that order": line 0 has the system, line i the i-th sample
+unfoldable pub lineFault : List ℕ → ℕ → ℕ
+lineFault text i =
+    firstFault
+    ((isNone (lineNumber (lineAt text i)), notAColumn) ∷
+    (eqb i 0 && noSystem (numberAt text i), unknownSystem) ∷
+    (not (eqb i 0) && outOfRange (numberAt text i), sampleOutOfRange) ∷
+    (eqb i (windowLength * (mostWindows + 1)), recordFull) ∷
+    [])
+
+-- the first fault of the places before n in their order, with the fault of each place given
+unfoldable pub firstOf : (ℕ → ℕ) → ℕ → ℕ
+firstOf fault zero = noRefusal
+firstOf fault (suc n) = cond (eqb (firstOf fault n) noRefusal) (fault n) (firstOf fault n)
+
+-- the first fault of the lines before line n
+unfoldable pub faultBefore : List ℕ → ℕ → ℕ
+faultBefore text n = firstOf (lineFault text) n
+
+-- "no system line" 13; "at the end 10 (no sample at all) or 2 (the last window is short)"
+unfoldable pub endFault : ℕ → ℕ
+endFault lines =
+    firstFault
+    ((eqb lines 0, notAColumn) ∷
+    (eqb lines 1, noWindow) ∷
+    (not (eqb ((lines - 1) % windowLength) 0), shortWindow) ∷
+    [])
+
+-- the refusal of an input, or none
+unfoldable pub inputRefusal : List ℕ → ℕ
+inputRefusal text =
+    cond (eqb (faultBefore text (lineCountOf text)) noRefusal) (endFault (lineCountOf text))
+    (faultBefore text (lineCountOf text))

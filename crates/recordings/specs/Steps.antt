@@ -1,0 +1,52 @@
+-- What the private functions of the reading are asked. No public contract cites it.
+use mathlib.Core.Bool.{cond}
+use mathlib.Core.List.{List, _++_}
+use mathlib.Core.Path.{_≡_}
+use Prim.Native.Nat.{ℕ, _+_}
+use lib.Dec.{ltb}
+use lib.IntN.{ℤ, pos, negsuc}
+use lib.ListN.{drop, replicate}
+use Rattle.algebra.specs.Lists.{tabulate}
+use Rattle.refusals.specs.Numbers.{noRefusal}
+use Rattle.refusals.specs.Answers.{unlessRefused}
+use Rattle.columns.specs.declared.Number.{Number}
+use Rattle.groups.specs.declared.Kind.{Kind}
+use Rattle.groups.specs.Group.{orderCount, groupAnswer}
+use Rattle.observation.specs.declared.Row.{Row}
+use Rattle.observation.specs.declared.Observation.{Observation}
+use Rattle.recordings.specs.declared.Reading.{Reading}
+use Rattle.recordings.specs.Lines.{lineNumber, numberOr0, numberAt}
+use Rattle.recordings.specs.Reading.{sampleFault, faultOfLines}
+
+-- the sample on a line, or the line's fault
+unfoldable pub sampleOn : List ℕ → Number
+sampleOn line =
+    record {
+      refusal = sampleFault line;
+      value = unlessRefused (sampleFault line) (numberOr0 (lineNumber line)) (pos 0);
+    }
+
+-- the samples on the first lines of a block are read to the front of a list: the answer is their first fault, and where there is none the list has them
+pub record ReadInto (block : List ℕ) (count : ℕ) (before : List ℤ) (fault : ℕ) (after : List ℤ) : Type 0 where
+  pub fault-is : fault ≡ faultOfLines block count
+  pub samples-are : fault ≡ noRefusal → after ≡ tabulate count (numberAt block) ++ drop count before
+
+-- the row of a kind for the lines of a window
+unfoldable pub rowOfLines : Kind → ℕ → List ℕ → Row
+rowOfLines kind system lines =
+    record { system = system; values = tabulate orderCount (λ i. groupAnswer kind system (i + 1) lines .value) }
+
+-- the number of the system line as a system: 0, which is none, where it is below 0 or too large for one
+unfoldable pub systemWord : ℤ → ℕ
+systemWord (pos n) = cond (ltb 99 n) 0 n
+systemWord (negsuc n) = 0
+
+-- the reading before the first window
+unfoldable pub readingOfNone : ℕ → Observation → Reading
+readingOfNone refusal observation =
+    record {
+      refusal = refusal;
+      observation = observation;
+      group = replicate orderCount 0;
+      subgroup = replicate orderCount 0;
+    }

@@ -1,0 +1,139 @@
+// The reading of an input: its first line, and then one window's lines at a time.
+use crate::COLUMN_WIDTH;
+use crate::LINE_BYTES;
+use crate::LINE_COUNT;
+use crate::Reading;
+use crate::WINDOW_BYTES;
+use crate::WINDOW_LENGTH;
+use crate::lines::number_on_line;
+use crate::lines::read_samples;
+use crate::rows::row_of;
+use groups::Kind;
+use observation::Observation;
+use observation::add_row;
+use observation::fresh_record;
+use refusals::NO_REFUSAL;
+use refusals::SHORT_WINDOW;
+use spectrum::spectrum;
+ghost use mathlib.Core.Bool.{false};
+ghost use mathlib.Core.Path.{_≡_};
+ghost use lib.ListN.{length};
+ghost use Rattle.algebra.specs.Lists.{anyOf};
+ghost use Rattle.spectrum.specs.Line.{windowLength};
+ghost use Rattle.spectrum.specs.Spectrum.{outOfRange};
+ghost use Rattle.recordings.specs.Reading.{beginOf, blockLines, refusedWith, windowTaken, blockOf};
+ghost use Rattle.recordings.specs.Steps.{systemWord, readingOfNone};
+
+// The largest number that is looked at as a system.
+const LARGEST_SYSTEM: i64 = 99;
+
+// The number of the system line as a system, or 0, which is none.
+fn system_word(number: i64) -> u32
+    ensures { λ r. ⌜ r ≡ systemWord number ⌝ }
+{
+    if number < 0 {
+        return 0;
+    }
+    if LARGEST_SYSTEM < number {
+        return 0;
+    }
+    number as u32
+}
+
+// The reading with no window yet.
+fn reading_of_none(refusal: u32, observation: Observation) -> Reading
+    ensures { λ r. ⌜ r ≡ readingOfNone refusal observation ⌝ }
+{
+    Reading {
+        refusal,
+        observation,
+        group: [0; 40],
+        subgroup: [0; 40],
+    }
+}
+
+// The reading after the first line of an input, which is handed over with its newline; a shorter
+// input is handed over whole. Bytes after the line are not looked at. Refused: 13, 1.
+pub fn begin(line: &[u8]) -> Reading
+    ensures { λ r. ⌜ r ≡ beginOf (now (line .entry)) ⌝ }
+{
+    let number = number_on_line(line, 0);
+    let fresh = fresh_record(system_word(number.value));
+    let observation = fresh.observation;
+    if number.refusal != NO_REFUSAL {
+        return reading_of_none(number.refusal, observation);
+    }
+    reading_of_none(fresh.refusal, observation)
+}
+
+// How many lines of a block are looked at, a last one that is cut off among them.
+fn block_lines(block: &[u8]) -> usize
+    ensures { λ r. ⌜ r ≡ blockLines (now (block .entry)) ⌝ }
+{
+    if WINDOW_BYTES <= block.len() {
+        return WINDOW_LENGTH;
+    }
+    (block.len() + COLUMN_WIDTH) / LINE_BYTES
+}
+
+// The reading that a fault ends.
+fn refused_with(fault: u32, reading: Reading) -> Reading
+    ensures { λ r. ⌜ r ≡ refusedWith fault reading ⌝ }
+{
+    let observation = reading.observation;
+    let group = reading.group;
+    let subgroup = reading.subgroup;
+    Reading {
+        refusal: fault,
+        observation,
+        group,
+        subgroup,
+    }
+}
+
+// The reading with one more window, whose samples are in range.
+fn take_window(reading: Reading, samples: &[i32]) -> Reading
+    requires { ⌜ length (now samples) ≡ windowLength ⌝ }
+    requires { ⌜ anyOf outOfRange (now samples) ≡ false ⌝ }
+    ensures { λ r. ⌜ r ≡ windowTaken reading (now (samples .entry)) ⌝ }
+{
+    let mut lines = [0; LINE_COUNT];
+    spectrum(samples, 0, &mut lines);
+    let observation = reading.observation;
+    let system = observation.system;
+    let group_row = row_of(Kind::HarmonicGroup, system, &lines);
+    let subgroup_row = row_of(Kind::HarmonicSubgroup, system, &lines);
+    let added = add_row(observation, group_row);
+    let observation = added.observation;
+    let group = group_row.values;
+    let subgroup = subgroup_row.values;
+    Reading {
+        refusal: added.refusal,
+        observation,
+        group,
+        subgroup,
+    }
+}
+
+// The reading after the next block of an input: one window's lines, the last block as many as are
+// left. A refused reading stays as it is, and so does any at an empty block. Bytes after one
+// window's lines are not looked at. Refused: 13 and 3 at the first line that gives them, 2, 9.
+pub fn take_block(reading: Reading, block: &[u8]) -> Reading
+    ensures { λ r. ⌜ r ≡ blockOf reading (now (block .entry)) ⌝ }
+{
+    if reading.refusal != NO_REFUSAL {
+        return reading;
+    }
+    if block.len() == 0 {
+        return reading;
+    }
+    let mut samples = [0; WINDOW_LENGTH];
+    let fault = read_samples(block, block_lines(block), &mut samples);
+    if fault != NO_REFUSAL {
+        return refused_with(fault, reading);
+    }
+    if block.len() < WINDOW_BYTES {
+        return refused_with(SHORT_WINDOW, reading);
+    }
+    take_window(reading, &samples)
+}

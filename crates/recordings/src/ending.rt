@@ -1,0 +1,99 @@
+// The end of a reading: the listing, or only the line for a refusal.
+use crate::OUTPUT_ROOM;
+use crate::Reading;
+use columns::fill_listing;
+use columns::fill_refusal_line;
+use observation::is_sound;
+use refusals::Answer;
+use refusals::NO_REFUSAL;
+use refusals::NO_WINDOW;
+use refusals::UNSOUND_RECORD;
+use refusals::WRONG_BUFFER_LENGTH;
+ghost use mathlib.Core.Bool.{true};
+ghost use mathlib.Core.Path.{_≡_};
+ghost use lib.ListN.{length};
+ghost use Rattle.refusals.specs.Answers.{answer};
+ghost use Rattle.columns.specs.Listing.{listingText};
+ghost use Rattle.columns.specs.Calls.{listingFault, listingWritten};
+ghost use Rattle.observation.specs.Soundness.{largestValue, noneAbove, isSound};
+ghost use Rattle.recordings.specs.Reading.{finishFault, outputOf, outputWritten};
+
+const ORDER_COUNT: usize = 40;
+
+// The bytes of the line for a refusal.
+const REFUSAL_LINE_LENGTH: usize = 11;
+
+// The refusal at the end: that of the reading, 7 for a reading that no call gave, 10 where no
+// window came.
+fn finish_fault(reading: Reading) -> u32
+    ensures { λ r. ⌜ r ≡ finishFault reading ⌝ }
+{
+    let refusal = reading.refusal;
+    let observation = reading.observation;
+    let windows = observation.windows;
+    let sound = is_sound(observation);
+    if WRONG_BUFFER_LENGTH < refusal {
+        return UNSOUND_RECORD;
+    }
+    if refusal != NO_REFUSAL {
+        return refusal;
+    }
+    if !sound {
+        return UNSOUND_RECORD;
+    }
+    if windows == 0 {
+        return NO_WINDOW;
+    }
+    NO_REFUSAL
+}
+
+// The values, which fit 32 bits, in 32 bits each.
+fn narrowed(values: [u64; 40]) -> [u32; 40]
+    requires { ⌜ noneAbove largestValue values ≡ true ⌝ }
+    ensures { λ r. ⌜ r ≡ values ⌝ }
+{
+    let mut narrow = [0; 40];
+    let mut i = 0;
+    while i < ORDER_COUNT {
+        narrow[i] = values[i] as u32;
+        i += 1;
+    }
+    narrow
+}
+
+// Writes the listing of a reading whose record is sound, and answers the count of its bytes.
+fn put_listing(reading: Reading, output: &mut [u8]) -> Answer
+    requires { ⌜ isSound (reading .observation) ≡ true ⌝ }
+    ensures { λ r. ⌜ r ≡ answer (listingFault (now (output .entry))) (length (listingText (reading .group) (reading .subgroup) (reading .observation .smoothed))) ⌝ }
+    ensures { λ _. ⌜ now (output .exit) ≡ listingWritten (now (output .entry)) (reading .group) (reading .subgroup) (reading .observation .smoothed) ⌝ }
+{
+    let group = reading.group;
+    let subgroup = reading.subgroup;
+    let observation = reading.observation;
+    let values = observation.smoothed;
+    let smoothed = narrowed(values);
+    fill_listing(&group, &subgroup, &smoothed, output)
+}
+
+// Writes what harmlist writes for the input that was read, and answers the count of its bytes; the
+// bytes after them stay. Refused: 14 buffer shorter than 1,640 bytes.
+pub fn finish(reading: Reading, output: &mut [u8]) -> Answer
+    ensures { λ r. ⌜ r ≡ answer (listingFault (now (output .entry))) (length (outputOf reading)) ⌝ }
+    ensures { λ _. ⌜ now (output .exit) ≡ outputWritten reading (now (output .entry)) ⌝ }
+{
+    if output.len() < OUTPUT_ROOM {
+        return Answer {
+            refusal: WRONG_BUFFER_LENGTH,
+            value: 0,
+        };
+    }
+    let fault = finish_fault(reading);
+    if fault == NO_REFUSAL {
+        return put_listing(reading, output);
+    }
+    fill_refusal_line(fault, &mut output[..REFUSAL_LINE_LENGTH]);
+    Answer {
+        refusal: NO_REFUSAL,
+        value: REFUSAL_LINE_LENGTH as u64,
+    }
+}

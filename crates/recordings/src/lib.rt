@@ -1,0 +1,39 @@
+// The text of a recording, read a window at a time, and the listing that is written for it.
+// A reading goes in by value and comes back by value. The caller lends the bytes of the input: the
+// first line to `begin`, then the lines of one window at a time to `take_block`, and `finish`
+// writes what harmlist writes. That this is document 01's output of the whole input is stated in
+// specs/Blocks.antt and proved in proofs/.
+mod blocks;
+mod ending;
+mod lines;
+mod rows;
+
+pub use blocks::begin;
+pub use blocks::take_block;
+pub use ending::finish;
+use observation::Observation;
+
+// Samples in a window.
+pub const WINDOW_LENGTH: usize = 2048;
+// Lines of a spectrum.
+const LINE_COUNT: usize = 512;
+// The bytes of a line: a column of 8 and a newline.
+pub const LINE_BYTES: usize = COLUMN_WIDTH + 1;
+// The bytes of a window's lines.
+pub const WINDOW_BYTES: usize = LINE_BYTES * WINDOW_LENGTH;
+
+const COLUMN_WIDTH: usize = 8;
+
+const NEWLINE: u8 = 10;
+
+// The bytes that `finish` may write.
+pub const OUTPUT_ROOM: usize = 1640;
+
+// How far an input has been read: the refusal that its lines gave, or NO_REFUSAL with the record of
+// the windows so far and the last window's harmonic groups and subgroups, orders 1..40.
+pub struct Reading {
+    pub refusal: u32,
+    pub observation: Observation,
+    pub group: [u32; 40],
+    pub subgroup: [u32; 40],
+}
