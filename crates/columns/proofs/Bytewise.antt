@@ -12,6 +12,7 @@ use lib.ListN.{length, getD, drop, length-drop, drop-of-length-le}
 use lib.Seq.{drop-cons}
 use Rattle.columns.specs.Text.{blank, digitZero}
 use Rattle.columns.specs.Column.{isDigit, areDigits, isWhole, placeValue, afterBlanks}
+use Rattle.columns.specs.Calls.{widestRead}
 use Rattle.columns.proofs.Decimal.{both-true, digit-bounds}
 
 module _ (text : List ℕ) (at : ℕ) (inside : at < length text) where
@@ -62,10 +63,10 @@ value-lt (b ∷ text) h =
     let nine : (b - digitZero) * 10 ^ length text ≤ 9 * 10 ^ length text = mul-le-mul-right (10 ^ length text) (omega arith) in
     rw (pow-suc 10 (length text)) (omega (arith, value-lt text (two .1)))
 
--- the digits of 18 places are below 10^18, so that their value is a signed number of 64 bits too
-pub value-lt-18 : (text : List ℕ) → areDigits text ≡ true → length text ≤ 18 → placeValue text < 10 ^ 18
-value-lt-18 text h few =
-    let more : 10 ^ length text ≤ 10 ^ 18 = pow-le-pow-right (omega arith) few in
+-- so the value of the widest column that is read is a number of 64 bits, also with a sign
+pub value-fits : (text : List ℕ) → areDigits text ≡ true → length text ≤ widestRead → placeValue text < 2 ^ 63
+value-fits text h few =
+    let more : 10 ^ length text ≤ 10 ^ widestRead = pow-le-pow-right (omega arith) few in
     omega (arith, value-lt text h)
 
 -- `value` is what stands before `at`, with the digits from `at` on still to come

@@ -54,11 +54,6 @@ pub put-front : {buffer text after : List ℕ} {next : ℕ} → Put buffer 0 tex
     → after ≡ text ++ drop (length text) buffer
 put-front {buffer} {text} put room = put .holds ∙ sets-eq text buffer 0 (omega arith) ∙ rw zero-add
 
--- the room that is left after a text
-pub put-room : {buffer text after : List ℕ} {at next : ℕ} (w more : ℕ) → Put buffer at text next after → length text ≡ w
-    → at + w + more ≤ length buffer → next + more ≤ length after
-put-room w more put wide room = omega (arith, put .place, put-length put)
-
 -- a text that fills the buffer
 pub put-whole : {buffer text after : List ℕ} {next : ℕ} → Put buffer 0 text next after → next ≡ length buffer → after ≡ text
 put-whole {buffer} {text} put all =

@@ -7,7 +7,8 @@ use lib.Dec.{eqb, ltb}
 use lib.IntN.{ℤ, pos}
 use lib.ListN.{length, drop}
 use Rattle.refusals.specs.Numbers.{noRefusal, notAColumn, wrongBufferLength}
-use Rattle.refusals.specs.Answers.{firstFault, unlessRefused}
+use Rattle.refusals.specs.Answers.{firstFault, unlessRefused, answer}
+use Rattle.refusals.specs.declared.Answer.{Answer}
 use Rattle.columns.specs.Column.{columnText, columnNumber, fitsColumn}
 use Rattle.columns.specs.Listing.{listingText, refusalWidth, refusalLineLength, refusalLine}
 use Rattle.columns.specs.declared.Number.{Number}
@@ -19,6 +20,10 @@ columnWidth = 8
 -- the bytes that a listing may need: its header and the lines of 40 orders
 abbrev pub listingRoom : ℕ
 listingRoom = 1640
+
+-- the widest column that the reader takes: the numbers of 18 digits fit 64 bits with a sign
+abbrev pub widestRead : ℕ
+widestRead = 18
 
 -- a number, or the refusal of what is none
 abbrev pub readingOf : Option ℤ → Number
@@ -54,6 +59,11 @@ refusalLineWritten buffer refusal =
 -- "14 buffer shorter than 1,640 bytes"
 unfoldable pub listingFault : List ℕ → ℕ
 listingFault buffer = firstFault ((ltb (length buffer) listingRoom, wrongBufferLength) ∷ [])
+
+-- the count of bytes written
+abbrev pub listingAnswer : List ℕ → List ℕ → List ℕ → List ℕ → Answer
+listingAnswer buffer group subgroup smoothed =
+    answer (listingFault buffer) (length (listingText group subgroup smoothed))
 
 -- what the buffer holds after a listing: "bytes after them stay"
 unfoldable pub listingWritten : List ℕ → List ℕ → List ℕ → List ℕ → List ℕ

@@ -11,11 +11,10 @@ ghost use mathlib.Core.Path.{_≡_};
 ghost use Prim.Native.Nat.{_+_, _*_, _^_, _≤_, _<_};
 ghost use lib.IntN.{pos};
 ghost use lib.ListN.{length};
-ghost use Rattle.refusals.specs.Answers.{answer};
 ghost use Rattle.columns.specs.Text.{Put};
 ghost use Rattle.columns.specs.Column.{fitsColumn, columnText};
-ghost use Rattle.columns.specs.Listing.{orders, lineLength, orderLine, leftOut, orderText, ordersText, listingText, refusalWidth, refusalLineLength, refusalLine};
-ghost use Rattle.columns.specs.Calls.{listingFault, listingWritten, refusalLineFault, refusalLineWritten};
+ghost use Rattle.columns.specs.Listing.{valueWidth, orders, lineLength, orderLine, leftOut, orderText, ordersText, refusalWidth, refusalLineLength, refusalLine};
+ghost use Rattle.columns.specs.Calls.{listingAnswer, listingWritten, refusalLineFault, refusalLineWritten};
 
 // The orders 1..40, and the widths of an order's columns.
 const ORDERS: usize = 40;
@@ -37,7 +36,7 @@ pub fn fill_listing(
     smoothed: &[u32; ORDERS],
     buffer: &mut [u8],
 ) -> Answer
-    ensures { λ r. ⌜ r ≡ answer (listingFault (now (buffer .entry))) (length (listingText (now (group .entry)) (now (subgroup .entry)) (now (smoothed .entry)))) ⌝ }
+    ensures { λ r. ⌜ r ≡ listingAnswer (now (buffer .entry)) (now (group .entry)) (now (subgroup .entry)) (now (smoothed .entry)) ⌝ }
     ensures { λ _. ⌜ now (buffer .exit) ≡ listingWritten (now (buffer .entry)) (now (group .entry)) (now (subgroup .entry)) (now (smoothed .entry)) ⌝ }
 {
     if buffer.len() < LISTING_ROOM {
@@ -155,11 +154,20 @@ fn put_line(
     ensures { λ r. ⌜ Put (now (buffer .entry)) at (orderLine order group subgroup smoothed) r (now (buffer .exit)) ⌝ }
 {
     let group_at = put_column(buffer, at, ORDER_WIDTH, order as u64);
-    let subgroup_at = put_column(buffer, group_at, VALUE_WIDTH, group as u64);
-    let smoothed_at = put_column(buffer, subgroup_at, VALUE_WIDTH, subgroup as u64);
-    let end = put_column(buffer, smoothed_at, VALUE_WIDTH, smoothed as u64);
+    let subgroup_at = put_value(buffer, group_at, group);
+    let smoothed_at = put_value(buffer, subgroup_at, subgroup);
+    let end = put_value(buffer, smoothed_at, smoothed);
     buffer[end] = NEWLINE;
     end + 1
+}
+
+// Puts the column of a value, which fits it, and answers the place after it.
+fn put_value(buffer: &mut [u8], at: usize, value: u32) -> usize
+    requires { ⌜ at + valueWidth ≤ length (now buffer) ⌝ }
+    ensures { λ r. ⌜ Put (now (buffer .entry)) at (columnText valueWidth (pos value)) r (now (buffer .exit)) ⌝ }
+    ensures { λ r. ⌜ r ≡ at + valueWidth ⌝ }
+{
+    put_column(buffer, at, VALUE_WIDTH, value as u64)
 }
 
 // Puts the column of a number that fits it, and answers the place after it.
@@ -168,6 +176,7 @@ fn put_column(buffer: &mut [u8], at: usize, width: usize, number: u64) -> usize
     requires { ⌜ fitsColumn width (pos number) ≡ true ⌝ }
     requires { ⌜ at + width ≤ length (now buffer) ⌝ }
     ensures { λ r. ⌜ Put (now (buffer .entry)) at (columnText width (pos number)) r (now (buffer .exit)) ⌝ }
+    ensures { λ r. ⌜ r ≡ at + width ⌝ }
 {
     let end = at + width;
     fill_column(&mut buffer[at..end], number as i64);

@@ -12,7 +12,7 @@ ghost use mathlib.Core.Path.{_≡_};
 ghost use Prim.Native.Nat.{_≤_};
 ghost use lib.ListN.{length, drop};
 ghost use Rattle.columns.specs.Column.{isDigit, areDigits, isWhole, placeValue, wholeNumber, negativeNumber, signedNumber, afterBlanks, columnNumber};
-ghost use Rattle.columns.specs.Calls.{readingOf, columnReadOf};
+ghost use Rattle.columns.specs.Calls.{widestRead, readingOf, columnReadOf};
 
 // The number of a column of 8 bytes.
 pub fn read_column(text: &[u8]) -> Number
@@ -24,9 +24,9 @@ pub fn read_column(text: &[u8]) -> Number
     column_number(text)
 }
 
-// The number of a column as wide as the text. At most 18 digits, so that each number fits.
+// The number of a column as wide as the text.
 fn column_number(text: &[u8]) -> Number
-    requires { ⌜ length (now text) ≤ 18 ⌝ }
+    requires { ⌜ length (now text) ≤ widestRead ⌝ }
     ensures { λ r. ⌜ r ≡ readingOf (columnNumber (now (text .entry))) ⌝ }
 {
     let start = first_not_blank(text);
@@ -35,7 +35,7 @@ fn column_number(text: &[u8]) -> Number
 
 // The number of a text with no blanks before it.
 fn signed_number(text: &[u8]) -> Number
-    requires { ⌜ length (now text) ≤ 18 ⌝ }
+    requires { ⌜ length (now text) ≤ widestRead ⌝ }
     ensures { λ r. ⌜ r ≡ readingOf (signedNumber (now (text .entry))) ⌝ }
 {
     if text.len() == 0 {
@@ -49,7 +49,7 @@ fn signed_number(text: &[u8]) -> Number
 
 // The number of a text of digits, with a minus before it or without.
 fn digits_number(text: &[u8], negative: bool) -> Number
-    requires { ⌜ length (now text) ≤ 18 ⌝ }
+    requires { ⌜ length (now text) ≤ widestRead ⌝ }
     ensures { λ r. ⌜ r ≡ readingOf (cond negative (negativeNumber (now (text .entry))) (wholeNumber (now (text .entry)))) ⌝ }
 {
     if !is_whole(text) {
@@ -137,7 +137,7 @@ fn is_digit(byte: u8) -> bool
 
 // The number that digits stand for.
 fn place_value(text: &[u8]) -> u64
-    requires { ⌜ length (now text) ≤ 18 ⌝ }
+    requires { ⌜ length (now text) ≤ widestRead ⌝ }
     requires { ⌜ areDigits (now text) ≡ true ⌝ }
     ensures { λ r. ⌜ r ≡ placeValue (now (text .entry)) ⌝ }
 {

@@ -28,7 +28,7 @@ pub fn write_column(buffer: &mut [u8], number: i64) -> u32
 }
 
 // What refuses a text of a length that has a column of a width for a number, or NO_REFUSAL.
-pub fn write_fault(length: usize, width: usize, buffer: &[u8], number: i64) -> u32
+pub(crate) fn write_fault(length: usize, width: usize, buffer: &[u8], number: i64) -> u32
     ensures { λ r. ⌜ r ≡ writeFault length width (now (buffer .entry)) number ⌝ }
 {
     if buffer.len() != length {
@@ -41,7 +41,7 @@ pub fn write_fault(length: usize, width: usize, buffer: &[u8], number: i64) -> u
 }
 
 // Fills the buffer with the column of a number that fits it.
-pub fn fill_column(buffer: &mut [u8], number: i64)
+pub(crate) fn fill_column(buffer: &mut [u8], number: i64)
     requires { ⌜ fitsColumn (length (now buffer)) number ≡ true ⌝ }
     ensures { λ _. ⌜ now (buffer .exit) ≡ columnText (length (now (buffer .entry))) number ⌝ }
 {

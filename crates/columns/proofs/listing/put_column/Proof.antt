@@ -1,5 +1,5 @@
 -- `columns::listing::put_column` meets its contract.
-use mathlib.Core.Path.{_≡_, _∙_}
+use mathlib.Core.Path.{_≡_, refl, _∙_}
 use Prim.Native.Nat.{_+_, _-_}
 use native.Mathlib.Omega.{arith}
 use borrow.Rule.Slice.PartMut.{mid-len}
@@ -46,8 +46,9 @@ returns c =
     let part = mid-len at (at + start .args .width) (start .args .buffer .now) (start .pre .1 .1) ∙ width in
     let column : c .before .before .fill-column .last .0 ≡ columnText (start .args .width) (pos (start .args .number)) =
     c .before .before .fill-column .ensures ∙ rw (part, number) in
-    rw column
-    (put-part (start .args .buffer .now) (columnText (start .args .width) (pos (start .args .number))) at (start .args .width) (start .pre .1 .1) (length-of-text _ _ (start .pre .1 .0)))
+    let text = columnText (start .args .width) (pos (start .args .number)) in
+    let put = put-part (start .args .buffer .now) text at (start .args .width) (start .pre .1 .1) (length-of-text _ _ (start .pre .1 .0)) in
+    (rw column put, refl)
 
 pub put-column-spec : {M : Type 1} → statement M
 put-column-spec =

@@ -1,11 +1,10 @@
 -- `columns::listing::put_refusal_line` meets its contract.
-use mathlib.Core.Path.{_≡_, refl}
+use mathlib.Core.Path.{refl}
 use Prim.Native.Nat.{_+_}
 use native.Mathlib.Omega.{arith}
 use lib.ListN.{set}
 use Rattle.columns.specs.Text.{newline, bytesOf, Put}
-use Rattle.columns.specs.Listing.{refusalWidth, refusalLine}
-use Rattle.columns.proofs.Column.{length-of-text}
+use Rattle.columns.specs.Listing.{refusalLine}
 use Rattle.columns.proofs.Puts.{put-byte, put-then, put-length, put-copy, put-whole}
 use borrow.Author.Needs.{needs}
 use Rattle.columns.proofs.listing.put_refusal_line.Statement.{statement}
@@ -27,15 +26,8 @@ word-put c =
     let buffer = c .before .before .before .before .args .buffer .now in
     rw (c .copy .ensures .0, c .copy .ensures .1) (put-copy buffer (bytesOf "refused") 7 refl (omega arith))
 
-column-end : (c : tie.After-slice-known3) → c .before .before .put-column .result ≡ 7 + refusalWidth
-column-end c =
-    let copied = c .before .before .before .before .before .before in
-    omega (arith, c .before .before .put-column .ensures .place, length-of-text refusalWidth _ (copied .before .before .before .before .pre .1), copied .copy .ensures .0)
-
 slice-write-buffer : tie.Need-slice-write-buffer
-slice-write-buffer c =
-    let copied = c .before .before .before .before .before .before in
-    omega (arith, column-end c, put-length (c .before .before .put-column .ensures), put-length (word-put copied))
+slice-write-buffer c = search needs
 
 line-put : (c : tie.After-slice-known3)
     → Put (c .before .before .before .before .before .before .before .before .before .before .args .buffer .now) 0
@@ -45,10 +37,10 @@ unfolding refusalLine
 line-put c =
     let column = c .before .before .put-column in
     let copied = c .before .before .before .before .before .before in
-    put-then (put-then (word-put copied) (column .ensures)) (put-byte (column .last .0) (column .result) newline)
+    put-then (put-then (word-put copied) (column .ensures .0)) (put-byte (column .last .0) (column .result) newline)
 
 returns : tie.Need-returns
-returns c = put-whole (line-put c) (omega (arith, column-end c, c .before .before .before .before .before .before .before .before .before .before .pre .0))
+returns c = put-whole (line-put c) (search needs)
 
 same-length : tie.Need-same-length
 same-length c = put-length (line-put c)

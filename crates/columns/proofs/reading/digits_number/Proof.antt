@@ -8,7 +8,7 @@ use lib.IntN.{pos}
 use mir.Facts.{toZ-ofZ}
 use Rattle.columns.specs.Calls.{readingOf}
 use Rattle.columns.specs.Column.{isWhole}
-use Rattle.columns.proofs.Bytewise.{digits-of-whole, value-lt-18}
+use Rattle.columns.proofs.Bytewise.{digits-of-whole, value-fits}
 use Rattle.columns.proofs.Readings.{no-digits, whole-is, no-negative-zero, negative-is}
 use Rattle.columns.proofs.Signed.{toZ-pos, sub-eq-neg, neg-fits}
 use borrow.Author.Needs.{needs}
@@ -35,7 +35,7 @@ value-lt : (c : tie.After-place-value) → c .place-value .result < 2 ^ 63
 value-lt c =
     let start = c .before .before .before .before in
     let text = start .args .text .now in
-    omega (arith, c .place-value .ensures, value-lt-18 text (digits-of-whole text (whole (c .before))) (start .pre))
+    omega (arith, c .place-value .ensures, value-fits text (digits-of-whole text (whole (c .before))) (start .pre))
 
 place-value-requires : tie.Need-place-value-requires
 place-value-requires c κs =

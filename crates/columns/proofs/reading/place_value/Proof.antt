@@ -5,7 +5,7 @@ use native.Mathlib.Omega.{arith}
 use lib.ListN.{length, getD, drop}
 use Rattle.columns.specs.Text.{digitZero}
 use Rattle.columns.specs.Column.{placeValue}
-use Rattle.columns.proofs.Bytewise.{ReadTo, read-le, read-digit, read-next, value-end, value-lt-18}
+use Rattle.columns.proofs.Bytewise.{ReadTo, read-le, read-digit, read-next, value-end, value-fits}
 use Rattle.columns.proofs.reading.place_value.Statement.{statement}
 use Rattle.columns.proofs.reading.place_value.Tie as tie
 
@@ -18,15 +18,15 @@ abbrev μ-loop : tie.MeasureT-loop
 loop-holds : tie.Need-loop-holds Inv-loop μ-loop
 loop-holds c = (omega arith, (c .pre .1, omega arith))
 
--- what a turn makes of the value is below 10^18
+-- what a turn makes of the value is below 2^63
 next-lt : (c : tie.In-loop Inv-loop μ-loop)
-    → c .before .loop .value * 10 + (getD (c .before .before .args .text .now) (c .before .loop .at) 0 - digitZero) < 10 ^ 18
+    → c .before .loop .value * 10 + (getD (c .before .before .args .text .now) (c .before .loop .at) 0 - digitZero) < 2 ^ 63
 next-lt c =
     let text = c .before .before .args .text .now in
     let l = c .before .loop in
     let next = l .value * 10 + (getD text (l .at) 0 - digitZero) in
     let read = read-next text (l .value) (l .at) (omega arith) (l .inv .1) in
-    omega (arith, read-le text next (l .at + 1) read, value-lt-18 text (c .before .before .pre .1) (c .before .before .pre .0))
+    omega (arith, read-le text next (l .at + 1) read, value-fits text (c .before .before .pre .1) (c .before .before .pre .0))
 
 mul-value : tie.Need-mul-value Inv-loop μ-loop
 mul-value c = omega (arith, next-lt c)
