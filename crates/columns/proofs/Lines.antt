@@ -18,15 +18,16 @@ pub header-length : length header ≡ lineLength
 unfolding header bytesOf rightJustified
 header-length = refl
 
-fits-of-lt : (w n : ℕ) → n < 10 ^ suc w → fitsColumn (suc w) (pos n) ≡ true
+fits-of-lt : (w n : ℕ) → 0 < w → n < 10 ^ w → fitsColumn w (pos n) ≡ true
 unfolding fitsColumn numberText
-fits-of-lt w n h = le-leb _ _ (length-le w n h)
+fits-of-lt zero n some h = absurd (omega arith)
+fits-of-lt (suc w) n some h = le-leb _ _ (length-le w n h)
 
 pub order-fits : (h : ℕ) → h ≤ orders → fitsColumn orderWidth (pos h) ≡ true
-order-fits h small = fits-of-lt 2 h (omega arith)
+order-fits h small = fits-of-lt orderWidth h (omega arith) (omega arith)
 
 pub value-fits : (n : ℕ) → n < 2 ^ 32 → fitsColumn valueWidth (pos n) ≡ true
-value-fits n small = fits-of-lt 11 n (omega arith)
+value-fits n small = fits-of-lt valueWidth n (omega arith) (omega arith)
 
 module _ (h group subgroup smoothed : ℕ) (order : h ≤ orders) (g : group < 2 ^ 32) (s : subgroup < 2 ^ 32) (m : smoothed < 2 ^ 32) where
   pub length-line : length (orderLine h group subgroup smoothed) ≡ lineLength

@@ -4,8 +4,8 @@ use mathlib.Core.Path.{_≡_, _∙_}
 use Prim.Native.Nat.{ℕ, _-_, _≤_}
 use native.Mathlib.Omega.{arith}
 use borrow.Rule.Slice.PartMut.{putMid, post-is}
-use lib.ListN.{length, take, drop, length-append, length-drop}
-use lib.Seq.{take-all, drop-length, length-take-le}
+use lib.ListN.{length, take, drop, length-drop}
+use lib.Seq.{take-all, drop-length}
 
 module _ (xs : List ℕ) (at : ℕ) where
   pub part-to-end : take (length xs - at) (drop at xs) ≡ drop at xs
@@ -19,7 +19,3 @@ module _ (xs : List ℕ) (at : ℕ) where
   put-to-end ys h =
       let none-after : drop (length xs - at) (drop at xs) ≡ [] = post-is at (length xs) xs h ∙ drop-length xs in
       rw (none-after, append-nil)
-
-  pub length-put-to-end : (ys : List ℕ) → at ≤ length xs → length ys ≡ length xs - at → length (putMid at (length xs - at) xs ys) ≡ length xs
-  length-put-to-end ys h l =
-      rw (put-to-end ys h, length-append, length-take-le at xs h) (omega arith)

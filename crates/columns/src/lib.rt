@@ -12,6 +12,7 @@ pub use writing::write_column;
 // The width of a column that is read or written alone.
 const COLUMN_WIDTH: usize = 8;
 
+// The bytes of a column and of a line.
 const BLANK: u8 = 32;
 
 const MINUS: u8 = 45;

@@ -16,18 +16,21 @@ ghost use Rattle.columns.specs.Column.{fitsColumn, columnText};
 ghost use Rattle.columns.specs.Listing.{valueWidth, orders, lineLength, orderLine, leftOut, orderText, ordersText, refusalWidth, refusalLineLength, refusalLine};
 ghost use Rattle.columns.specs.Calls.{listingAnswer, listingWritten, refusalLineFault, refusalLineWritten};
 
-// The orders 1..40, and the widths of an order's columns.
+// The orders 1..40.
 const ORDERS: usize = 40;
 
+// The width of an order's column, and of its values' columns.
 const ORDER_WIDTH: usize = 3;
 
 const VALUE_WIDTH: usize = 12;
 
+// The bytes that a listing may need.
+const LISTING_ROOM: usize = 1640;
+
+// The width of a refusal's number in its line, and the bytes of that line.
 const REFUSAL_WIDTH: usize = 3;
 
 const REFUSAL_LINE_LENGTH: usize = 11;
-// The bytes that a listing may need.
-const LISTING_ROOM: usize = 1640;
 
 // Fills the buffer with the listing of the 40 orders' values, and answers the count of its bytes.
 pub fn fill_listing(
