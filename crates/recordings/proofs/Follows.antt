@@ -37,7 +37,7 @@ use Rattle.recordings.specs.Lines.{lineBytes, lineCountOf, lineAt, lineN
 use Rattle.recordings.specs.Faults.{isNone, noSystem, lineFault, firstOf, faultBefore, endFault}
 use Rattle.recordings.specs.Output.{systemIn, windowIn, windowCount, rowOf, rowsIn, recordIn, listingFor, harmlistOutput}
 use Rattle.recordings.specs.Reading.{windowBytes, beginOf, faultOfLines, blockLines, samplesOf, refusedWith, windowTaken, blockOf, outputOf}
-use Rattle.recordings.specs.Blocks.{joined, readingAfter, AllWhole, WholeButLast, FollowsDefinition, RefusedStays, RefusedWhenFull}
+use Rattle.recordings.specs.Blocks.{joined, readingAfter, AllWhole, WholeButLast, FollowsDefinition, RefusedStays, StopsAtRefusal, RefusedWhenFull}
 use Rattle.recordings.proofs.GroupValue.{value-lt}
 use Rattle.recordings.proofs.NumberOnLine.{number-of-cut}
 use Rattle.recordings.proofs.FirstLine.{first-line-fault}
@@ -462,6 +462,17 @@ pub refused-stays : RefusedStays
 unfolding readingAfter
 refused-stays reading [] f = refl
 refused-stays reading (block ∷ blocks) f = rw (block-of-refused reading block f) (refused-stays reading blocks f)
+
+reading-of-append : (reading : Reading) (blocks more : List (List ℕ)) → readingAfter reading (blocks ++ more) ≡ readingAfter (readingAfter reading blocks) more
+unfolding readingAfter
+reading-of-append reading [] more = refl
+reading-of-append reading (block ∷ blocks) more = reading-of-append (blockOf reading block) blocks more
+
+pub stops-at-refusal : StopsAtRefusal
+stops-at-refusal first blocks more cut f =
+    let after = readingAfter (beginOf first) blocks in
+    ap outputOf (sym (reading-of-append (beginOf first) blocks more ∙ refused-stays after more f))
+    ∙ follows-definition first (blocks ++ more) cut
 
 windows-counted : (blocks : List (List ℕ)) (p : List ℕ) (w : ℕ) (reading : Reading) → Holds p w reading → AllWhole blocks → readingAfter reading blocks .refusal ≡ noRefusal → w + length blocks ≤ mostWindows
 unfolding readingAfter AllWhole

@@ -11,3 +11,4 @@ pub mod WindowFaults
 pub mod Output
 pub mod Written
 pub mod Follows
+pub mod WorkedInputs

@@ -49,6 +49,13 @@ RefusedStays =
     (reading : Reading) (blocks : List (List ℕ)) → (reading .refusal ≡ noRefusal → ⊥) →
     readingAfter reading blocks ≡ reading
 
+-- so what is written after the first blocks, where they give a refusal, is what harmlist writes for the whole input
+abbrev pub StopsAtRefusal : Type 0
+StopsAtRefusal =
+    (first : List ℕ) (blocks more : List (List ℕ)) → CutInBlocks first (blocks ++ more) →
+    (readingAfter (beginOf first) blocks .refusal ≡ noRefusal → ⊥) →
+    outputOf (readingAfter (beginOf first) blocks) ≡ harmlistOutput (first ++ joined (blocks ++ more))
+
 -- after more windows than a record holds the reading is refused, so that the reading of any input ends
 abbrev pub RefusedWhenFull : Type 0
 RefusedWhenFull =

@@ -3,6 +3,7 @@ use crate::OUTPUT_ROOM;
 use crate::Reading;
 use columns::fill_listing;
 use columns::fill_refusal_line;
+use groups::ORDER_COUNT;
 use observation::is_sound;
 use refusals::Answer;
 use refusals::NO_REFUSAL;
@@ -17,8 +18,6 @@ ghost use Rattle.columns.specs.Listing.{listingText};
 ghost use Rattle.columns.specs.Calls.{listingFault, listingWritten};
 ghost use Rattle.observation.specs.Soundness.{largestValue, noneAbove, isSound};
 ghost use Rattle.recordings.specs.Reading.{finishFault, outputOf, outputWritten};
-
-const ORDER_COUNT: usize = 40;
 
 // The bytes of the line for a refusal.
 const REFUSAL_LINE_LENGTH: usize = 11;

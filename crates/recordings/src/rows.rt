@@ -1,11 +1,10 @@
 // The rows of a window: the group values of a kind for the orders 1..40.
 use groups::Kind;
+use groups::ORDER_COUNT;
 use groups::group_value;
 use observation::Row;
 ghost use mathlib.Core.Path.{_≡_};
 ghost use Rattle.recordings.specs.Steps.{rowOfLines};
-
-const ORDER_COUNT: usize = 40;
 
 // The row of a kind for the lines of a window, with its system.
 pub fn row_of(kind: Kind, system: u32, lines: &[u64]) -> Row
