@@ -12,6 +12,6 @@ target/examples/verdicts: examples/c/verdicts.c include/kifsang.h $(ARCHIVE)
 	$(CC) $(CFLAGS) -o $@ $< $(ARCHIVE) -lm
 
 rust: $(ARCHIVE)
-	CARGO_TARGET_DIR=target/cargo cargo build --quiet --release --offline --manifest-path bindings/rust/Cargo.toml
+	CARGO_TARGET_DIR=target/cargo cargo build --quiet --release --offline --examples --manifest-path bindings/rust/Cargo.toml
 
 .PHONY: all rust
