@@ -4,13 +4,15 @@ mod listing;
 mod reading;
 mod writing;
 
+pub use listing::LISTING_ROOM;
+pub use listing::REFUSAL_LINE_LENGTH;
 pub use listing::fill_listing;
 pub use listing::fill_refusal_line;
 pub use reading::read_column;
 pub use writing::write_column;
 
 // The width of a column that is read or written alone.
-const COLUMN_WIDTH: usize = 8;
+pub const COLUMN_WIDTH: usize = 8;
 
 // The bytes of a column and of a line.
 const BLANK: u8 = 32;
@@ -19,7 +21,7 @@ const MINUS: u8 = 45;
 
 const DIGIT_ZERO: u8 = 48;
 
-const NEWLINE: u8 = 10;
+pub const NEWLINE: u8 = 10;
 
 // A number that was read, or a refusal's number with 0.
 pub struct Number {

@@ -25,12 +25,12 @@ const ORDER_WIDTH: usize = 3;
 const VALUE_WIDTH: usize = 12;
 
 // The bytes that a listing may need.
-const LISTING_ROOM: usize = 1640;
+pub const LISTING_ROOM: usize = 1640;
 
 // The width of a refusal's number in its line, and the bytes of that line.
 const REFUSAL_WIDTH: usize = 3;
 
-const REFUSAL_LINE_LENGTH: usize = 11;
+pub const REFUSAL_LINE_LENGTH: usize = 11;
 
 // Fills the buffer with the listing of the 40 orders' values, and answers the count of its bytes.
 pub fn fill_listing(

@@ -9,6 +9,7 @@ use refusals::NO_REFUSAL;
 use refusals::ORDER_OUT_OF_RANGE;
 use refusals::UNKNOWN_SYSTEM;
 use refusals::WRONG_LINE_COUNT;
+use spectrum::LINE_COUNT;
 ghost use mathlib.Core.Path.{_≡_};
 ghost use mathlib.Core.List.{[], _∷_, _++_};
 ghost use Prim.Native.Nat.{_+_, _^_, _≤_, _<_};
@@ -17,8 +18,6 @@ ghost use Rattle.refusals.specs.Numbers.{noRefusal};
 ghost use Rattle.groups.specs.Weights.{wholeLines, halfLine, weightsOf, weightedSum};
 ghost use Rattle.groups.specs.Group.{isSystem, isOrder, lineAt, groupRefusal, groupAnswer};
 
-// The lines of a spectrum.
-const LINE_COUNT: usize = 512;
 // The largest line that is taken.
 const LARGEST_LINE: u64 = 1 << 59;
 

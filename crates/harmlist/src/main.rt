@@ -3,10 +3,10 @@
 // to `take_block`, and what `finish` answers to the output. That this is what document 01 says of
 // the whole input is the theorem of the library (recordings/specs/Blocks.antt). It holds one
 // window's lines at a time. A read that fails ends the input.
+use columns::LISTING_ROOM;
 use libc::STDIN_FILENO;
 use libc::STDOUT_FILENO;
 use recordings::LINE_BYTES;
-use recordings::OUTPUT_ROOM;
 use recordings::Reading;
 use recordings::WINDOW_BYTES;
 use recordings::begin;
@@ -57,7 +57,7 @@ fn read_blocks(first: Reading) -> Reading {
 }
 
 fn write_output(reading: Reading) {
-    let mut output = [0u8; OUTPUT_ROOM];
+    let mut output = [0u8; LISTING_ROOM];
     let answer = finish(reading, &mut output);
     let count = answer.value as usize;
     io::write_all(STDOUT_FILENO, &output[..count]);

@@ -1,19 +1,19 @@
 // The reading of an input: its first line, and then one window's lines at a time.
-use crate::COLUMN_WIDTH;
 use crate::LINE_BYTES;
-use crate::LINE_COUNT;
 use crate::Reading;
 use crate::WINDOW_BYTES;
-use crate::WINDOW_LENGTH;
 use crate::lines::number_on_line;
 use crate::lines::read_samples;
 use crate::rows::row_of;
+use columns::COLUMN_WIDTH;
 use groups::Kind;
 use observation::Observation;
 use observation::add_row;
 use observation::fresh_record;
 use refusals::NO_REFUSAL;
 use refusals::SHORT_WINDOW;
+use spectrum::LINE_COUNT;
+use spectrum::WINDOW_LENGTH;
 use spectrum::spectrum;
 ghost use mathlib.Core.Bool.{false};
 ghost use mathlib.Core.Path.{_≡_};

@@ -1,6 +1,7 @@
 // The end of a reading: the listing, or only the line for a refusal.
-use crate::OUTPUT_ROOM;
 use crate::Reading;
+use columns::LISTING_ROOM;
+use columns::REFUSAL_LINE_LENGTH;
 use columns::fill_listing;
 use columns::fill_refusal_line;
 use groups::ORDER_COUNT;
@@ -18,9 +19,6 @@ ghost use Rattle.columns.specs.Listing.{listingText};
 ghost use Rattle.columns.specs.Calls.{listingFault, listingWritten};
 ghost use Rattle.observation.specs.Soundness.{largestValue, noneAbove, isSound};
 ghost use Rattle.recordings.specs.Reading.{finishFault, outputOf, outputWritten};
-
-// The bytes of the line for a refusal.
-const REFUSAL_LINE_LENGTH: usize = 11;
 
 // The refusal at the end: that of the reading, 7 for a reading that no call gave, 10 where no
 // window came.
@@ -80,7 +78,7 @@ pub fn finish(reading: Reading, output: &mut [u8]) -> Answer
     ensures { λ r. ⌜ r ≡ answer (listingFault (now (output .entry))) (length (outputOf reading)) ⌝ }
     ensures { λ _. ⌜ now (output .exit) ≡ outputWritten reading (now (output .entry)) ⌝ }
 {
-    if output.len() < OUTPUT_ROOM {
+    if output.len() < LISTING_ROOM {
         return Answer {
             refusal: WRONG_BUFFER_LENGTH,
             value: 0,

@@ -10,24 +10,15 @@ mod rows;
 
 pub use blocks::begin;
 pub use blocks::take_block;
+use columns::COLUMN_WIDTH;
 pub use ending::finish;
 use observation::Observation;
+use spectrum::WINDOW_LENGTH;
 
-// Samples in a window.
-pub const WINDOW_LENGTH: usize = 2048;
-// Lines of a spectrum.
-const LINE_COUNT: usize = 512;
 // The bytes of a line: a column of 8 and a newline.
 pub const LINE_BYTES: usize = COLUMN_WIDTH + 1;
 // The bytes of a window's lines.
 pub const WINDOW_BYTES: usize = LINE_BYTES * WINDOW_LENGTH;
-
-const COLUMN_WIDTH: usize = 8;
-
-const NEWLINE: u8 = 10;
-
-// The bytes that `finish` may write.
-pub const OUTPUT_ROOM: usize = 1640;
 
 // How far an input has been read: the refusal that its lines gave, or NO_REFUSAL with the record of
 // the windows so far and the last window's harmonic groups and subgroups, orders 1..40.

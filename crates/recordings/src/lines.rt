@@ -1,12 +1,13 @@
 // The lines of a text: a column of 8 bytes and a newline each.
-use crate::COLUMN_WIDTH;
 use crate::LINE_BYTES;
-use crate::NEWLINE;
+use columns::COLUMN_WIDTH;
+use columns::NEWLINE;
 use columns::Number;
 use columns::read_column;
 use refusals::NO_REFUSAL;
 use refusals::NOT_A_COLUMN;
 use refusals::SAMPLE_OUT_OF_RANGE;
+use spectrum::LARGEST_SAMPLE;
 ghost use mathlib.Core.Path.{_≡_};
 ghost use Prim.Native.Nat.{_+_, _*_, _≤_, _<_};
 ghost use lib.ListN.{length};
@@ -15,8 +16,8 @@ ghost use Rattle.spectrum.specs.Spectrum.{outOfRange};
 ghost use Rattle.recordings.specs.Lines.{lineBytes, lineAt, lineNumber};
 ghost use Rattle.recordings.specs.Steps.{sampleOn, ReadInto};
 
-// The largest sample; the smallest is its negative.
-const LARGEST_SAMPLE: i64 = 131071;
+// The largest sample as a number of a column.
+const LARGEST_NUMBER: i64 = LARGEST_SAMPLE as i64;
 
 // The number on a line of the text, counted from 0, or 13.
 pub fn number_on_line(text: &[u8], line: usize) -> Number
@@ -43,7 +44,7 @@ pub fn number_on_line(text: &[u8], line: usize) -> Number
 fn out_of_range(sample: i64) -> bool
     ensures { λ r. ⌜ r ≡ outOfRange sample ⌝ }
 {
-    sample < -LARGEST_SAMPLE || LARGEST_SAMPLE < sample
+    sample < -LARGEST_NUMBER || LARGEST_NUMBER < sample
 }
 
 // The sample on a line of the text, or 13, or 3.

@@ -19,11 +19,11 @@ use refusals::WRONG_LINE_COUNT;
 use sine::TURN;
 
 // Samples in a window.
-const WINDOW_LENGTH: usize = 2048;
+pub const WINDOW_LENGTH: usize = 2048;
 // Lines of a spectrum.
-const LINE_COUNT: usize = 512;
+pub const LINE_COUNT: usize = 512;
 // The largest sample; the smallest is its negative.
-const LARGEST_SAMPLE: i32 = 131071;
+pub const LARGEST_SAMPLE: i32 = 131071;
 // What is added to an index for the sine.
 const SINE_PHASE: usize = 0;
 // What is added to an index for the cosine: a quarter turn.
