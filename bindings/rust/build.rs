@@ -2,9 +2,8 @@
 //! by KIFSANG_ARCHIVE, or is the repository's target/staticlib.
 
 fn main() {
-    let folder = std::env::var("KIFSANG_ARCHIVE").unwrap_or_else(|_| {
-        format!("{}/../../target/staticlib", std::env!("CARGO_MANIFEST_DIR"))
-    });
+    let folder = std::env::var("KIFSANG_ARCHIVE")
+        .unwrap_or_else(|_| format!("{}/../../target/staticlib", std::env!("CARGO_MANIFEST_DIR")));
     println!("cargo:rustc-link-search=native={folder}");
     println!("cargo:rustc-link-lib=static=interface");
     println!("cargo:rerun-if-changed={folder}/libinterface.a");

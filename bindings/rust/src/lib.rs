@@ -181,8 +181,7 @@ pub fn distortion(values: &[u32]) -> Result<u64, Refusal> {
 /// A fresh observation record, into a buffer of [`RECORD_WORDS`].
 pub fn fresh_record(system: u32, record: &mut [u64]) -> Result<(), Refusal> {
     // SAFETY: the pointer comes with the length of its slice.
-    let refusal =
-        unsafe { raw::kifsang_fresh_record(system, record.as_mut_ptr(), record.len()) };
+    let refusal = unsafe { raw::kifsang_fresh_record(system, record.as_mut_ptr(), record.len()) };
     answered(refusal, ())
 }
 
@@ -233,8 +232,7 @@ pub fn read_column(text: &[u8]) -> Result<i64, Refusal> {
 /// Writes a number into a column of 8 bytes.
 pub fn write_column(buffer: &mut [u8], number: i64) -> Result<(), Refusal> {
     // SAFETY: the pointer comes with the length of its slice.
-    let refusal =
-        unsafe { raw::kifsang_write_column(buffer.as_mut_ptr(), buffer.len(), number) };
+    let refusal = unsafe { raw::kifsang_write_column(buffer.as_mut_ptr(), buffer.len(), number) };
     answered(refusal, ())
 }
 

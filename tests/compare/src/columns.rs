@@ -1,6 +1,6 @@
 //! Number columns and listings.
 
-use crate::{Tally, numbers};
+use crate::{numbers, Tally};
 use kifsang::{COLUMN_WIDTH, LISTING_ROOM, ORDER_COUNT};
 use reference::random::Random;
 
@@ -31,29 +31,75 @@ fn compare_listing(tally: &mut Tally, rows: &[[u32; ORDER_COUNT]; 3], room: usiz
     let expected = reference::listing::fill_listing(&mut other, &rows[0], &rows[1], &rows[2]);
     let (refusal, number) = numbers(&answer, &expected);
     tally.same("the listing's refusal", refusal, number);
-    tally.same("the bytes of a listing", answer.ok(), expected.ok().map(|count| count as u64));
+    tally.same(
+        "the bytes of a listing",
+        answer.ok(),
+        expected.ok().map(|count| count as u64),
+    );
     tally.same("the buffer of a listing", core, other);
 }
 
 pub fn compare(tally: &mut Tally, seed: u64) {
     let mut random = Random::new(seed ^ 0xC01);
     for text in [
-        "      -7", "      07", "      -0", "       0", "99999999", "-9999999", "        ", "       -",
-        "  1 2   ", "1       ", "      +7", "     --7", "00000000", "      10", "   -10 0", "\t      7",
-        "      7\n", "1234567", "123456789", "", "     -12",
+        "      -7",
+        "      07",
+        "      -0",
+        "       0",
+        "99999999",
+        "-9999999",
+        "        ",
+        "       -",
+        "  1 2   ",
+        "1       ",
+        "      +7",
+        "     --7",
+        "00000000",
+        "      10",
+        "   -10 0",
+        "\t      7",
+        "      7\n",
+        "1234567",
+        "123456789",
+        "",
+        "     -12",
     ] {
         compare_read(tally, text.as_bytes());
     }
     let bytes = b" -0123456789\n\t+a\x00\xff";
     for _ in 0..20_000 {
-        let length = if random.below(10) == 0 { random.below(12) as usize } else { COLUMN_WIDTH };
+        let length = if random.below(10) == 0 {
+            random.below(12) as usize
+        } else {
+            COLUMN_WIDTH
+        };
         let blanks = random.below(9) as usize;
         let text: Vec<u8> = (0..length)
-            .map(|place| if place < blanks { b' ' } else { bytes[random.below(bytes.len() as u64) as usize] })
+            .map(|place| {
+                if place < blanks {
+                    b' '
+                } else {
+                    bytes[random.below(bytes.len() as u64) as usize]
+                }
+            })
             .collect();
         compare_read(tally, &text);
     }
-    for number in [0, 1, -1, 9, 10, -9, -10, 99_999_999, 100_000_000, -9_999_999, -10_000_000, i64::MAX, i64::MIN] {
+    for number in [
+        0,
+        1,
+        -1,
+        9,
+        10,
+        -9,
+        -10,
+        99_999_999,
+        100_000_000,
+        -9_999_999,
+        -10_000_000,
+        i64::MAX,
+        i64::MIN,
+    ] {
         for room in [0, 7, 8, 9] {
             compare_write(tally, number, room);
         }
@@ -63,7 +109,11 @@ pub fn compare(tally: &mut Tally, seed: u64) {
         compare_write(tally, number, COLUMN_WIDTH);
         let mut text = vec![b' '; COLUMN_WIDTH];
         if kifsang::write_column(&mut text, number).is_ok() {
-            tally.same("a number that is written and read", kifsang::read_column(&text), Ok(number));
+            tally.same(
+                "a number that is written and read",
+                kifsang::read_column(&text),
+                Ok(number),
+            );
         }
     }
     let mut rows = [[0; ORDER_COUNT]; 3];
@@ -73,7 +123,11 @@ pub fn compare(tally: &mut Tally, seed: u64) {
     for _ in 0..300 {
         for row in &mut rows {
             for value in row.iter_mut() {
-                *value = if random.below(3) == 0 { random.bits() as u32 >> random.below(32) } else { 0 };
+                *value = if random.below(3) == 0 {
+                    random.bits() as u32 >> random.below(32)
+                } else {
+                    0
+                };
             }
         }
         compare_listing(tally, &rows, LISTING_ROOM + random.below(50) as usize);

@@ -35,9 +35,22 @@ fn compare_input(tally: &mut Tally, program: &str, name: &str, input: &[u8]) {
 /// A line that is wrong in one way, or right.
 fn line(random: &mut Random) -> Vec<u8> {
     let lines: [&[u8]; 16] = [
-        b"     500\n", b"  131071\n", b" -131071\n", b"  131072\n", b" -131072\n", b"99999999\n",
-        b"      +7\n", b"      7\n", b"        7\n", b"      07\n", b"      -0\n", b"     \t7\n",
-        b"       7\r\n", b"     \xc3\xa97\n", b"      \x007\n", b"       7",
+        b"     500\n",
+        b"  131071\n",
+        b" -131071\n",
+        b"  131072\n",
+        b" -131072\n",
+        b"99999999\n",
+        b"      +7\n",
+        b"      7\n",
+        b"        7\n",
+        b"      07\n",
+        b"      -0\n",
+        b"     \t7\n",
+        b"       7\r\n",
+        b"     \xc3\xa97\n",
+        b"      \x007\n",
+        b"       7",
     ];
     lines[random.below(lines.len() as u64) as usize].to_vec()
 }
@@ -77,7 +90,12 @@ pub fn compare(tally: &mut Tally, program: &str, seed: u64) {
     // A small recording cut at every place, and thousands of random edits of it.
     let valid = input_bytes(12, &signals::noise(2048, 131_071, seed).samples);
     for length in 0..=valid.len() {
-        compare_input(tally, program, &format!("the first {length} bytes"), &valid[..length]);
+        compare_input(
+            tally,
+            program,
+            &format!("the first {length} bytes"),
+            &valid[..length],
+        );
     }
     for number in 0..3000 {
         let input = edited(&mut random, &valid);

@@ -30,7 +30,10 @@ pub fn numbers<T, U>(
     reference: &Result<U, reference::refusal::Refusal>,
 ) -> (u32, u32) {
     let of_core = core.as_ref().err().map_or(0, |refusal| refusal.0);
-    (of_core, u32::from(reference::refusal::number_or_zero(reference)))
+    (
+        of_core,
+        u32::from(reference::refusal::number_or_zero(reference)),
+    )
 }
 
 const SEED: u64 = 1;
@@ -45,5 +48,8 @@ fn main() {
             columns::compare(&mut tally, SEED);
         }
     }
-    println!("{} comparisons with the second program, all alike", tally.compared);
+    println!(
+        "{} comparisons with the second program, all alike",
+        tally.compared
+    );
 }

@@ -1,8 +1,8 @@
 //! Observation records and verdicts, sound and not.
 
-use crate::{Tally, numbers};
+use crate::{numbers, Tally};
 use kifsang::{ORDER_COUNT, RECORD_WORDS};
-use reference::observation::{Record, Row, add_row, fresh_record};
+use reference::observation::{add_row, fresh_record, Record, Row};
 use reference::random::Random;
 use reference::verdict::Verdict;
 
@@ -20,7 +20,11 @@ fn compare_add_row(tally: &mut Tally, record: &Record, row: &Row) -> Record {
     let answer = kifsang::add_row(&mut core, row.system as u32, &row.values);
     let (next, refusal) = add_row(record.clone(), row);
     let expected = refusal.map_or(0, |refusal| u32::from(refusal.number()));
-    tally.same("add row", answer.err().map_or(0, |refusal| refusal.0), expected);
+    tally.same(
+        "add row",
+        answer.err().map_or(0, |refusal| refusal.0),
+        expected,
+    );
     tally.same("the record after add row", core, words(&next));
     next
 }
@@ -79,8 +83,16 @@ pub fn compare(tally: &mut Tally, seed: u64) {
         let answer = kifsang::fresh_record(system, &mut core);
         let (fresh, refusal) = fresh_record(system.into());
         let expected = refusal.map_or(0, |refusal| u32::from(refusal.number()));
-        tally.same("fresh record", answer.err().map_or(0, |refusal| refusal.0), expected);
-        let after = if expected == 0 { words(&fresh) } else { vec![7; RECORD_WORDS] };
+        tally.same(
+            "fresh record",
+            answer.err().map_or(0, |refusal| refusal.0),
+            expected,
+        );
+        let after = if expected == 0 {
+            words(&fresh)
+        } else {
+            vec![7; RECORD_WORDS]
+        };
         tally.same("the words after fresh record", core, after);
     }
     for system in [10, 12] {
@@ -88,7 +100,11 @@ pub fn compare(tally: &mut Tally, seed: u64) {
             let (mut record, _) = fresh_record(system);
             compare_verdicts(tally, &record, &scales);
             for _ in 0..40 {
-                let of = if random.below(8) == 0 { random.below(14) } else { system };
+                let of = if random.below(8) == 0 {
+                    random.below(14)
+                } else {
+                    system
+                };
                 let row = random_row(&mut random, of);
                 record = compare_add_row(tally, &record, &row);
                 let wrong = damaged(&mut random, &record);
@@ -105,7 +121,10 @@ pub fn compare(tally: &mut Tally, seed: u64) {
         for scale in [1000, 999_983, 1_000_000, 268_435_456] {
             let limit = (2_300_000 / order as u64).max(200) * scale / 1_000_000;
             for _ in 0..10 {
-                let mut row = Row { system: 10, values: [0; ORDER_COUNT] };
+                let mut row = Row {
+                    system: 10,
+                    values: [0; ORDER_COUNT],
+                };
                 let near = limit + random.below(2 * limit + 40);
                 row.values[order - 1] = near.min(u64::from(u32::MAX)) as u32;
                 let (record, _) = add_row(fresh.clone(), &row);
@@ -114,7 +133,10 @@ pub fn compare(tally: &mut Tally, seed: u64) {
         }
     }
     for value in [2_299_988, 2_299_989, 2_300_012, 2_300_013] {
-        let mut row = Row { system: 10, values: [0; ORDER_COUNT] };
+        let mut row = Row {
+            system: 10,
+            values: [0; ORDER_COUNT],
+        };
         row.values[2] = value;
         let (record, _) = add_row(fresh.clone(), &row);
         compare_verdicts(tally, &record, &[1_000_000]);
@@ -129,10 +151,26 @@ pub fn compare(tally: &mut Tally, seed: u64) {
 
     // Slices that are no record and no row.
     let mut short = vec![0; RECORD_WORDS - 1];
-    tally.same("a short record", kifsang::fresh_record(10, &mut short), Err(kifsang::Refusal(102)));
+    tally.same(
+        "a short record",
+        kifsang::fresh_record(10, &mut short),
+        Err(kifsang::Refusal(102)),
+    );
     let mut whole = words(&fresh);
     let wrong = [0; ORDER_COUNT + 1];
-    tally.same("a long row", kifsang::add_row(&mut whole, 10, &wrong), Err(kifsang::Refusal(102)));
-    tally.same("a short record", kifsang::verdict(&short, 3, 1), Err(kifsang::Refusal(102)));
-    tally.same("a long row", kifsang::distortion(&wrong), Err(kifsang::Refusal(102)));
+    tally.same(
+        "a long row",
+        kifsang::add_row(&mut whole, 10, &wrong),
+        Err(kifsang::Refusal(102)),
+    );
+    tally.same(
+        "a short record",
+        kifsang::verdict(&short, 3, 1),
+        Err(kifsang::Refusal(102)),
+    );
+    tally.same(
+        "a long row",
+        kifsang::distortion(&wrong),
+        Err(kifsang::Refusal(102)),
+    );
 }

@@ -1,10 +1,12 @@
 //! Spectra, groups and distortion.
 
-use crate::{Tally, numbers};
+use crate::{numbers, Tally};
 use kifsang::{LINE_COUNT, ORDER_COUNT, WINDOW_LENGTH};
+use reference::annex_c::{comparison, own_spectrum, Agreement};
 use reference::group::Kind;
 use reference::random::Random;
 use reference::signals;
+use std::cell::RefCell;
 
 const KINDS: [kifsang::Kind; 5] = [
     kifsang::Kind::Component,
@@ -21,7 +23,11 @@ fn compare_spectrum(tally: &mut Tally, name: &str, recording: &[i32], start: usi
     let answer = kifsang::spectrum(recording, start, &mut core);
     let expected = reference::spectrum::spectrum(recording, start, &mut other);
     let (number, expected) = numbers(&answer, &expected);
-    tally.same(&format!("spectrum of {name} from {start}"), number, expected);
+    tally.same(
+        &format!("spectrum of {name} from {start}"),
+        number,
+        expected,
+    );
     tally.same(&format!("lines of {name} from {start}"), core, other);
 }
 
@@ -33,9 +39,14 @@ fn compare_groups(tally: &mut Tally, name: &str, lines: &[u64]) {
             let whole = kifsang::row(kind, system, lines, &mut row);
             for order in 1..=ORDER_COUNT as u32 {
                 let core = kifsang::group_value(kind, system, order, lines);
-                let expected = reference::group::group_value(other, system.into(), order.into(), lines);
+                let expected =
+                    reference::group::group_value(other, system.into(), order.into(), lines);
                 let what = format!("{kind:?} of {name}, system {system}, order {order}");
-                tally.same(&what, numbers(&core, &expected).0, numbers(&core, &expected).1);
+                tally.same(
+                    &what,
+                    numbers(&core, &expected).0,
+                    numbers(&core, &expected).1,
+                );
                 if let (Ok(value), Ok(expected)) = (core, expected) {
                     tally.same(&what, value, expected);
                     tally.same(&what, u64::from(row[order as usize - 1]), expected);
@@ -80,7 +91,31 @@ fn compare_group_refusals(tally: &mut Tally) {
     }
 }
 
+/// The worked examples of IEC 61000-4-7, annex C: the core's lines and groups of their windows, and so
+/// the figures that are set beside the printed ones (`reference annex-c`).
+fn compare_annex_c(tally: &mut Tally) {
+    let tally = RefCell::new(tally);
+    let by_core = |samples: &[i32]| {
+        let mut lines = [0; LINE_COUNT];
+        kifsang::spectrum(samples, 0, &mut lines).expect("a window in range");
+        let mut tally = tally.borrow_mut();
+        tally.same("lines of annex C", lines, own_spectrum(samples));
+        compare_groups(&mut tally, "annex C", &lines);
+        lines
+    };
+    let figures = comparison(&by_core);
+    let met = figures
+        .iter()
+        .filter(|figure| figure.agreement() == Agreement::Rounds)
+        .count();
+    println!(
+        "annex C of IEC 61000-4-7: {met} of {} figures round to the printed ones",
+        figures.len()
+    );
+}
+
 pub fn compare(tally: &mut Tally, seed: u64) {
+    compare_annex_c(tally);
     let mut windows = signals::plain_windows();
     windows.extend(signals::seeded_windows(seed));
     for system in [10, 12] {
@@ -97,7 +132,18 @@ pub fn compare(tally: &mut Tally, seed: u64) {
     // near the largest number; a sample out of range inside the window and outside.
     let mut random = Random::new(seed);
     let mut long = signals::noise(3 * WINDOW_LENGTH + 77, 131_071, random.bits());
-    for start in [0, 1, 1000, 2048, 4096, 4173, 4174, 6221, usize::MAX, usize::MAX - 2047] {
+    for start in [
+        0,
+        1,
+        1000,
+        2048,
+        4096,
+        4173,
+        4174,
+        6221,
+        usize::MAX,
+        usize::MAX - 2047,
+    ] {
         compare_spectrum(tally, "a long recording", &long.samples, start, LINE_COUNT);
     }
     long.samples[3000] = 131_072;
@@ -107,7 +153,13 @@ pub fn compare(tally: &mut Tally, seed: u64) {
         }
     }
     long.samples[3000] = -131_072;
-    compare_spectrum(tally, "a damaged recording", &long.samples, 2000, LINE_COUNT);
+    compare_spectrum(
+        tally,
+        "a damaged recording",
+        &long.samples,
+        2000,
+        LINE_COUNT,
+    );
 
     compare_group_refusals(tally);
     for _ in 0..2000 {

@@ -1,11 +1,11 @@
 //! The examples of IEC 61000-4-7, annex C: which printed figures are met, as
 //! the README lists them.
 
-use reference::annex_c::{Agreement, comparison};
+use reference::annex_c::{Agreement, comparison, own_spectrum};
 
 /// The figures that agree in the given way, as "example subject".
 fn figures_that(agreement: Agreement) -> Vec<String> {
-    let all = comparison().into_iter();
+    let all = comparison(&own_spectrum).into_iter();
     let agreeing = all.filter(|figure| figure.agreement() == agreement);
     agreeing.map(|figure| format!("{} {}", figure.example, figure.subject)).collect()
 }
