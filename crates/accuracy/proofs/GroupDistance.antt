@@ -14,6 +14,7 @@ use Rattle.algebra.specs.Fraction.{whole}
 use Rattle.algebra.specs.Lists.{anyOf}
 use Rattle.algebra.specs.Weighted.{sumOver, Place, totalWeight, squares, exactSquares, Everywhere, Near, NearVector, WithinUnits}
 use Rattle.algebra.proofs.Norm.{norm-within, group-spread}
+use Rattle.algebra.proofs.Weighted.{everywhere-imp}
 use Rattle.integers.specs.Root.{rootOf, rootLimit}
 use Rattle.integers.proofs.Root.{root-law, lt-rootLimit}
 use Rattle.sine.specs.ExactSine.{denominator, exactSine, exactCosine}
@@ -30,7 +31,7 @@ use Rattle.groups.specs.Weights.{Weighted, weightsOf, weightedSum}
 use Rattle.groups.specs.Exact.{exactLine, exactGroup, exactGroupNumerator}
 use Rattle.groups.specs.Group.{isSystem, isOrder, orderCount, lineAt, groupValue, groupRefusal, groupAnswer}
 use Rattle.groups.proofs.GroupSum.{group-sum-lt}
-use Rattle.groups.proofs.Weights.{EveryLine, totalTwiceWeight, largestTotal, weights-total-le, weights-line-lt, weightedSum-eq}
+use Rattle.groups.proofs.Weights.{totalTwiceWeight, largestTotal, weights-total-le, weights-line-lt, weightedSum-eq}
 use Rattle.accuracy.specs.Distance.{InRange, GroupNear, GroupsNear, groupMargin}
 
 module _ (window : List ℤ) where
@@ -108,14 +109,11 @@ is-order order above-zero at-most = rw (lt-ltb 0 order above-zero, le-leb order 
 
 -- the lines of a group stand in the spectrum
 pub lines-of-group : (kind : Kind) (system order : ℕ) (window : List ℤ) → isSystem system ≡ true → isOrder order ≡ true → weightedSum (lineAt (linesOf window)) (weightsOf kind system order) ≡ weightedSum (lineOf window) (weightsOf kind system order)
-unfolding EveryLine
 lines-of-group kind system order window known-system known-order =
-    weightedSum-eq _ _ (weightsOf kind system order)
-    (in-spectrum (weightsOf kind system order) (weights-line-lt kind system order known-system known-order))
-  where
-    in-spectrum : (xs : List Weighted) → EveryLine (λ k. k < lineCount) xs → EveryLine (λ k. lineAt (linesOf window) k ≡ lineOf window k) xs
-    in-spectrum [] inside = tt
-    in-spectrum (x ∷ xs) inside = (getD-linesOf window (x .line) (inside .0), in-spectrum xs (inside .1))
+    let xs = weightsOf kind system order in
+    weightedSum-eq _ _ xs
+    (everywhere-imp _ _ (λ x inside. getD-linesOf window (x .line) inside) xs
+    (weights-line-lt kind system order known-system known-order))
 
 pub groups-near : GroupsNear
 unfolding GroupsNear groupAnswer groupValue exactGroup exactGroupNumerator whole Fraction.square

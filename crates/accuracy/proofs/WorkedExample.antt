@@ -11,13 +11,14 @@ use Rattle.algebra.specs.Fraction.{whole, scale, divide, _+ᶠ_}
 use Rattle.algebra.specs.Largest.{largest}
 use Rattle.algebra.specs.Lists.{tabulate, anyOf}
 use Rattle.algebra.specs.Rounding.{nearest}
+use Rattle.algebra.specs.Weighted.{sumOver}
 use Rattle.integers.specs.Root.{rootOf}
 use Rattle.spectrum.specs.Line.{lineCount, linesOf}
 use Rattle.spectrum.proofs.Pulse.{pulse, pulse-in-range, pulse-line}
 use Rattle.groups.specs.declared.Kind.{Kind}
 use Rattle.groups.specs.declared.Kind.the-variants.{HarmonicGroup}
 use Rattle.groups.specs.Weights.{wholeLines, weightsOf, weightedSum}
-use Rattle.groups.specs.Group.{orderCount, isSystem, isOrder, groupValue, groupRefusal, groupAnswer}
+use Rattle.groups.specs.Group.{orderCount, isSystem, isOrder, groupValue, groupRefusal, groupAnswer, groupValues}
 use Rattle.observation.specs.declared.Row.{Row}
 use Rattle.observation.specs.Book.{Book, emptyBook, smoothedNext, bookStep}
 use Rattle.observation.specs.Smoothing.{smoothedValue, reported}
@@ -38,7 +39,7 @@ known = refl
 
 module _ (kind : Kind) (window : List ℤ) where
   workedRow : Row
-  workedRow = record { system = 10; values = tabulate orderCount (λ i. valueOf kind 10 (i + 1) window) }
+  workedRow = record { system = 10; values = groupValues kind 10 (linesOf window) }
 
   -- of another system, so that it is refused
   refusedRow : Row
@@ -74,7 +75,7 @@ unfolding linesOf
 pulse-lines = ap (tabulate lineCount) (fun-ext pulse-line)
 
 pulse-value : groupAnswer HarmonicGroup 10 3 (tabulate lineCount (λ k. 4000000)) .value ≡ 8944
-unfolding groupAnswer groupRefusal isSystem isOrder groupValue rootOf largest weightsOf wholeLines weightedSum tabulate anyOf
+unfolding groupAnswer groupRefusal isSystem isOrder groupValue rootOf largest weightsOf wholeLines weightedSum sumOver tabulate anyOf
 pulse-value = refl
 
 pulse-group : valueOf HarmonicGroup 10 3 pulse ≡ 8944
@@ -82,7 +83,7 @@ pulse-group = ap (λ (lines : List ℕ). groupAnswer HarmonicGroup 10 3 lines .v
 
 -- the third order after the list
 pulse-book : bookAt (after HarmonicGroup 10 (workedRows HarmonicGroup pulse)) 2 ≡ record { count = 2; smoothed = 8944; sum = 17888; peak = 8944 }
-unfolding reportedBook bookAfter bookCall ownValues accepts rowChecks isSystem workedRows workedRow refusedRow bookStep emptyBook smoothedNext smoothedValue nearest tabulate
+unfolding reportedBook bookAfter bookCall ownValues accepts rowChecks isSystem workedRows workedRow refusedRow bookStep emptyBook smoothedNext smoothedValue nearest tabulate groupValues
 pulse-book =
     books-kept HarmonicGroup 10 known (workedRows HarmonicGroup pulse) (worked-rows HarmonicGroup pulse pulse-window) 3 (omega arith) (omega arith) ∙
     rw pulse-group

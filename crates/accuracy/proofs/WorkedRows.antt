@@ -1,28 +1,21 @@
 -- A row that is worked from samples holds values of 32 bits, and its value of an order is within the group margin of what an exact book of that order is fed.
 -- So the exact books of an order are near its reported book. Assumes the distance of 7 units, as a section's parameter.
 use mathlib.Core.Path.{_≡_, refl, ap, _∙_}
-use mathlib.Core.Bool.{Bool, true, false, cond}
+use mathlib.Core.Bool.{true}
 use mathlib.Core.List.{List}
 use Prim.Native.Nat.{ℕ, _-_, _<_, _≤_}
-use native.Mathlib.Nat.{mul-le-mul}
-use native.Mathlib.Omega.{arith, by-contra}
-use lib.Dec.{eqb}
+use native.Mathlib.Omega.{arith}
 use lib.IntN.{ℤ}
 use lib.ListN.{getD}
-use borrow.Author.Tests.{eqb-true}
 use Rattle.algebra.specs.Fraction.{Side, lower, upper, SquareWithin}
 use Rattle.algebra.proofs.Fraction.{near-root}
 use Rattle.algebra.proofs.Lists.{getD-tabulate}
-use Rattle.integers.proofs.Root.{root-law, lt-rootLimit}
-use Rattle.refusals.specs.Numbers.{noRefusal}
 use Rattle.groups.specs.declared.Kind.{Kind}
-use Rattle.groups.specs.Group.{orderCount, isSystem, groupValue, groupRefusal, groupAnswer}
+use Rattle.groups.specs.Group.{orderCount, isSystem, groupValues}
 use Rattle.groups.specs.Exact.{exactGroup}
-use Rattle.groups.proofs.GroupSum.{group-sum-lt}
+use Rattle.groups.proofs.GroupSum.{group-values-le}
 use Rattle.observation.specs.declared.Row.{Row}
-use Rattle.observation.specs.Soundness.{largestValue}
 use Rattle.observation.specs.BookCalls.{Fed, ValuesFit, AcceptedFit}
-use Rattle.observation.proofs.NoneAbove.{getD-le-of-none-above, none-above-tabulate}
 use Rattle.accuracy.specs.Distance.{groupMargin, valueOf, GroupNear, GroupsNear}
 use Rattle.accuracy.specs.ExactBook.{exact}
 use Rattle.accuracy.specs.Claim.{Worked, WorkedList, Feeds, ExactBook, reportedBook, state}
@@ -31,29 +24,9 @@ use Rattle.accuracy.proofs.Books.{BookNear, NearFed, books-near}
 
 -- ---- values of 32 bits
 
--- the root of a sum that fits 64 bits
-group-value-le : (kind : Kind) (system order : ℕ) (lines : List ℕ) → groupRefusal system order lines ≡ noRefusal → groupValue kind system order lines ≤ largestValue
-unfolding groupValue
-group-value-le kind system order lines e =
-    let fits = group-sum-lt kind system order lines e in
-    let root = root-law _ (lt-rootLimit _ fits) in
-    by-contra _ largestValue λ l. omega (arith, mul-le-mul l l, root .0)
-
--- a refusal answers 0
-pub answered-value-le : (kind : Kind) (system order : ℕ) (lines : List ℕ) → groupAnswer kind system order lines .value ≤ largestValue
-unfolding groupAnswer
-answered-value-le kind system order lines = go (eqb (groupRefusal system order lines) noRefusal) refl
-  where
-    go : (worked : Bool) → eqb (groupRefusal system order lines) noRefusal ≡ worked → cond worked (groupValue kind system order lines) 0 ≤ largestValue
-    go true e = group-value-le kind system order lines (eqb-true _ _ e)
-    go false e = omega arith
-
 worked-fits : (kind : Kind) (row : Row) (window : List ℤ) → Worked kind row window → ValuesFit row
 unfolding ValuesFit
-worked-fits kind row window worked i =
-    rw (worked .values)
-    (getD-le-of-none-above largestValue _ i
-    (none-above-tabulate largestValue orderCount _ (λ j l. answered-value-le kind (row .system) _ _)))
+worked-fits kind row window worked i = rw (worked .values) (group-values-le kind (row .system) _ i)
 
 pub worked-list-fits : (kind : Kind) (system : ℕ) (rows : List Row) → WorkedList kind system rows → AcceptedFit system 0 rows
 unfolding WorkedList
@@ -69,6 +42,7 @@ square-within upper kind system order window near = near .not-far-below
 
 -- the value that the row holds of an order
 pub worked-value : (kind : Kind) (row : Row) (window : List ℤ) → Worked kind row window → (order : ℕ) → 0 < order → order ≤ orderCount → getD (row .values) (order - 1) 0 ≡ valueOf kind (row .system) order window
+unfolding groupValues
 worked-value kind row window worked order positive le =
     rw (worked .values)
     (getD-tabulate orderCount _ (order - 1) 0 (omega arith) ∙ ap (λ h. valueOf kind (row .system) h window) (omega arith))

@@ -6,10 +6,10 @@ use mathlib.Core.List.{List, map}
 use Prim.Native.Nat.{ℕ, _+_, _-_, _<_, _≤_}
 use lib.IntN.{ℤ}
 use Rattle.algebra.specs.Fraction.{whole, Side, lower, upper, RootBound, _+ᶠ_, _≤ᶠ_, _<ᶠ_}
-use Rattle.algebra.specs.Lists.{tabulate}
 use Rattle.refusals.specs.Numbers.{noRefusal}
 use Rattle.groups.specs.declared.Kind.{Kind}
-use Rattle.groups.specs.Group.{orderCount, isSystem}
+use Rattle.spectrum.specs.Line.{linesOf}
+use Rattle.groups.specs.Group.{orderCount, isSystem, groupValues}
 use Rattle.groups.specs.Exact.{exactGroup}
 use Rattle.observation.specs.declared.Row.{Row}
 use Rattle.observation.specs.declared.Observation.{Observation}
@@ -23,13 +23,13 @@ use Rattle.verdict.specs.declared.Verdict.the-variants.{Within, Close, Over}
 use Rattle.verdict.specs.declared.Answered.the-variants.{Given}
 use Rattle.verdict.specs.Tests.{band, limitInUnits, peakLimitInUnits, Touches}
 use Rattle.verdict.specs.Call.{average, verdictRefusal, verdictAnswer, orderNumber}
-use Rattle.accuracy.specs.Distance.{InRange, valueOf, GroupsNear}
+use Rattle.accuracy.specs.Distance.{InRange, GroupsNear}
 use Rattle.accuracy.specs.ExactBook.{exact}
 
 -- a row is worked from samples if, with its system, it holds the 40 values of the kind that are answered for the lines of one window in range
 pub record Worked (kind : Kind) (row : Row) (window : List ℤ) : Type 0 where
   pub in-range : InRange window
-  pub values : row .values ≡ tabulate orderCount (λ i. valueOf kind (row .system) (i + 1) window)
+  pub values : row .values ≡ groupValues kind (row .system) (linesOf window)
 
 -- "Accepted rows are worked from samples, all of one kind; a refused row may hold anything"
 unfoldable pub WorkedList : Kind → ℕ → List Row → Type 0

@@ -5,6 +5,7 @@ pub mod SumTo
 pub mod Weighted
 pub mod Norm
 pub mod Lists
+pub mod Filling
 pub mod Largest
 pub mod Computed
 pub mod Rounding

@@ -7,9 +7,10 @@ use mathlib.Core.List.{List, [], _∷_, _++_, append-assoc, append-nil}
 use Prim.Native.Nat.{ℕ, zero, suc, _+_, _<_, _≤_}
 use native.Mathlib.Numerals.{add-one}
 use native.Mathlib.Nat.{eq-or-lt-of-le, le-of-suc-le-suc, not-suc-le-zero}
+use native.Mathlib.Decide.{decLt}
 use native.Mathlib.Omega.{arith}
-use lib.ListN.{length, getD, drop, set, length-append, List·getD-append}
-use lib.Seq.{drop-cons, drop-length, getD-at, set-at, append-snoc}
+use lib.ListN.{length, getD, take, drop, set, replicate, length-append, length-drop, length-replicate, getD-replicate, List·getD-append, List·getD-eq-default}
+use lib.Seq.{drop-cons, drop-length, getD-at, set-at, append-snoc, length-take-le, getD-take, getD-drop, ext-getD}
 use Rattle.algebra.specs.Lists.{tabulate, anyOf}
 
 module _ {ℓ} {A : Type ℓ} where
@@ -78,3 +79,40 @@ module _ {ℓ} {A : Type ℓ} where
   unfolding anyOf
   anyOf-false passes [] d e = refl
   anyOf-false passes (x ∷ xs) d e = rw (e 0 (omega arith)) (anyOf-false passes xs d (λ i h. e (suc i) (omega arith)))
+
+-- no entry above m, also none past the end
+pub getD-tabulate-le : (n : ℕ) (f : ℕ → ℕ) (m : ℕ) → ((i : ℕ) → i < n → f i ≤ m) → (i : ℕ) → getD (tabulate n f) i 0 ≤ m
+getD-tabulate-le n f m h i = by-place (decLt i n)
+  where
+    by-place : Dec (i < n) → getD (tabulate n f) i 0 ≤ m
+    by-place (yes inside) = rw (getD-tabulate n f i 0 inside) (h i inside)
+    by-place (no outside) =
+        let past : length (tabulate n f) ≤ i = rw (length-tabulate n f) (omega arith) in
+        let none : getD (tabulate n f) i 0 ≡ 0 = List·getD-eq-default (tabulate n f) 0 past in
+        omega (arith, none)
+
+-- the same entry at every place
+pub tabulate-same : {A : Type 0} (n : ℕ) (f : ℕ → A) (x : A) → ((i : ℕ) → i < n → f i ≡ x) → tabulate n f ≡ replicate n x
+tabulate-same n f x same =
+    let long = length-tabulate n f in
+    ext-getD x _ _ (long ∙ sym (length-replicate n x))
+    (λ i h.
+    let inside : i < n = rw long at h in
+    getD-tabulate n f i x inside ∙ same i inside ∙ sym (getD-replicate n i x x inside))
+
+-- a part of a list, place by place
+pub tabulate-part : (l : List ℕ) (start n : ℕ) → start + n ≤ length l → tabulate n (λ j. getD l (start + j) 0) ≡ take n (drop start l)
+tabulate-part l start n room =
+    let fits : n ≤ length (drop start l) = simp length-drop (omega arith) in
+    let long : length (tabulate n (λ j. getD l (start + j) 0)) ≡ n = length-tabulate n (λ j. getD l (start + j) 0) in
+    ext-getD 0 _ _ (long ∙ sym (length-take-le n (drop start l) fits))
+    (λ j inside.
+    let below : j < n = rw long at inside in
+    getD-tabulate n (λ j. getD l (start + j) 0) j 0 below ∙
+    sym (getD-take n (drop start l) j 0 below ∙ getD-drop start l j 0))
+
+-- the whole of it
+pub tabulate-whole : (l : List ℕ) (n : ℕ) → length l ≡ n → tabulate n (λ j. getD l j 0) ≡ l
+tabulate-whole l n e =
+    let long = length-tabulate n (λ j. getD l j 0) in
+    ext-getD 0 _ _ (long ∙ sym e) (λ j h. getD-tabulate n (λ j. getD l j 0) j 0 (rw long at h))

@@ -90,6 +90,23 @@ module _ {A : Type 0} where
   sumOver-+ f g h e [] = omega arith
   sumOver-+ f g h e (p ∷ places) = omega (arith, e p, sumOver-+ f g h e places)
 
+  -- the same number at each place
+  pub sumOver-eq : (f g : A → ℕ) (places : List A) → Everywhere (λ p. f p ≡ g p) places → sumOver f places ≡ sumOver g places
+  unfolding sumOver
+  sumOver-eq f g [] h = refl
+  sumOver-eq f g (p ∷ places) h = rw (h .0, sumOver-eq f g places (h .1))
+
+  -- at each place at most m times its weight
+  pub sumOver-le-multiple : (f w : A → ℕ) (m : ℕ) (places : List A) → Everywhere (λ p. f p ≤ w p * m) places → sumOver f places ≤ sumOver w places * m
+  unfolding sumOver
+  sumOver-le-multiple f w m [] h = omega arith
+  sumOver-le-multiple f w m (p ∷ places) h = omega (arith, h .0, sumOver-le-multiple f w m places (h .1))
+
+  -- a fact of everything, at each place
+  pub everywhere-all : (F : A → Type 0) → ((p : A) → F p) → (places : List A) → Everywhere F places
+  everywhere-all F h [] = tt
+  everywhere-all F h (p ∷ places) = (h p, everywhere-all F h places)
+
   -- a fact that follows from another at each place
   pub everywhere-imp : (F G : A → Type 0) → ((p : A) → F p → G p) → (places : List A) → Everywhere F places → Everywhere G places
   everywhere-imp F G i [] h = tt

@@ -7,9 +7,10 @@ use native.Mathlib.Omega.{arith}
 use borrow.Author.Tests.{le-leb}
 use lib.IntN.{pos}
 use lib.ListN.{length, getD, length-append}
+use Rattle.groups.specs.Group.{orderCount}
 use Rattle.columns.specs.Text.{bytesOf, rightJustified}
 use Rattle.columns.specs.Column.{numberText, fitsColumn, columnText}
-use Rattle.columns.specs.Listing.{orderWidth, valueWidth, lineLength, orders, header, orderLine, leftOut, orderText, ordersText, listingText}
+use Rattle.columns.specs.Listing.{orderWidth, valueWidth, lineLength, header, orderLine, leftOut, orderText, ordersText, listingText}
 use Rattle.columns.specs.Calls.{listingRoom}
 use Rattle.columns.proofs.Decimal.{length-le}
 use Rattle.columns.proofs.Column.{length-of-text}
@@ -23,13 +24,13 @@ unfolding fitsColumn numberText
 fits-of-lt zero n some h = absurd (omega arith)
 fits-of-lt (suc w) n some h = le-leb _ _ (length-le w n h)
 
-pub order-fits : (h : ℕ) → h ≤ orders → fitsColumn orderWidth (pos h) ≡ true
+pub order-fits : (h : ℕ) → h ≤ orderCount → fitsColumn orderWidth (pos h) ≡ true
 order-fits h small = fits-of-lt orderWidth h (omega arith) (omega arith)
 
 pub value-fits : (n : ℕ) → n < 2 ^ 32 → fitsColumn valueWidth (pos n) ≡ true
 value-fits n small = fits-of-lt valueWidth n (omega arith) (omega arith)
 
-module _ (h group subgroup smoothed : ℕ) (order : h ≤ orders) (g : group < 2 ^ 32) (s : subgroup < 2 ^ 32) (m : smoothed < 2 ^ 32) where
+module _ (h group subgroup smoothed : ℕ) (order : h ≤ orderCount) (g : group < 2 ^ 32) (s : subgroup < 2 ^ 32) (m : smoothed < 2 ^ 32) where
   pub length-line : length (orderLine h group subgroup smoothed) ≡ lineLength
   unfolding orderLine
   length-line =
@@ -51,7 +52,7 @@ abbrev pub Values : List ℕ → Type 0
 Values values = (i : ℕ) → getD values i 0 < 2 ^ 32
 
 module _ (group subgroup smoothed : List ℕ) (g : Values group) (s : Values subgroup) (m : Values smoothed) where
-  pub length-orders-le : (n : ℕ) → n ≤ orders → length (ordersText n group subgroup smoothed) ≤ lineLength * n
+  pub length-orders-le : (n : ℕ) → n ≤ orderCount → length (ordersText n group subgroup smoothed) ≤ lineLength * n
   unfolding ordersText
   length-orders-le zero h = omega arith
   length-orders-le (suc n) h =
@@ -60,4 +61,4 @@ module _ (group subgroup smoothed : List ℕ) (g : Values group) (s : Values sub
 
   pub listing-length-le : length (listingText group subgroup smoothed) ≤ listingRoom
   unfolding listingText
-  listing-length-le = rw length-append (omega (arith, header-length, length-orders-le orders (omega arith)))
+  listing-length-le = rw length-append (omega (arith, header-length, length-orders-le orderCount (omega arith)))

@@ -5,6 +5,7 @@ use Prim.Native.Nat.{ℕ, zero, suc, _+_, _*_}
 use lib.Dec.{eqb}
 use lib.IntN.{pos}
 use lib.ListN.{getD}
+use Rattle.groups.specs.Group.{orderCount}
 use Rattle.columns.specs.Text.{newline, bytesOf, rightJustified}
 use Rattle.columns.specs.Column.{columnText}
 
@@ -18,10 +19,6 @@ valueWidth = 12
 -- the columns of a line and its newline
 abbrev pub lineLength : ℕ
 lineLength = orderWidth + 3 * valueWidth + 1
-
--- the orders 1..40
-abbrev pub orders : ℕ
-orders = 40
 
 -- "each name right-justified in its column"
 unfoldable pub header : List ℕ
@@ -60,7 +57,7 @@ ordersText (suc n) group subgroup smoothed =
 
 -- the whole listing of three times 40 values
 unfoldable pub listingText : List ℕ → List ℕ → List ℕ → List ℕ
-listingText group subgroup smoothed = header ++ ordersText orders group subgroup smoothed
+listingText group subgroup smoothed = header ++ ordersText orderCount group subgroup smoothed
 
 -- the line that the program writes in place of a listing: "`refused`, the number in a column of 3 bytes, and a newline"
 abbrev pub refusalWidth : ℕ

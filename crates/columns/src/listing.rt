@@ -3,6 +3,7 @@
 use crate::NEWLINE;
 use crate::writing::fill_column;
 use crate::writing::write_fault;
+use groups::ORDER_COUNT;
 use refusals::Answer;
 use refusals::NO_REFUSAL;
 use refusals::WRONG_BUFFER_LENGTH;
@@ -11,13 +12,11 @@ ghost use mathlib.Core.Path.{_≡_};
 ghost use Prim.Native.Nat.{_+_, _*_, _^_, _≤_, _<_};
 ghost use lib.IntN.{pos};
 ghost use lib.ListN.{length};
+ghost use Rattle.groups.specs.Group.{orderCount};
 ghost use Rattle.columns.specs.Text.{Put};
 ghost use Rattle.columns.specs.Column.{fitsColumn, columnText};
-ghost use Rattle.columns.specs.Listing.{valueWidth, orders, lineLength, orderLine, leftOut, orderText, ordersText, refusalWidth, refusalLineLength, refusalLine};
+ghost use Rattle.columns.specs.Listing.{valueWidth, lineLength, orderLine, leftOut, orderText, ordersText, refusalWidth, refusalLineLength, refusalLine};
 ghost use Rattle.columns.specs.Calls.{listingAnswer, listingWritten, refusalLineFault, refusalLineWritten};
-
-// The orders 1..40.
-const ORDERS: usize = 40;
 
 // The width of an order's column, and of its values' columns.
 const ORDER_WIDTH: usize = 3;
@@ -34,9 +33,9 @@ pub const REFUSAL_LINE_LENGTH: usize = 11;
 
 // Fills the buffer with the listing of the 40 orders' values, and answers the count of its bytes.
 pub fn fill_listing(
-    group: &[u32; ORDERS],
-    subgroup: &[u32; ORDERS],
-    smoothed: &[u32; ORDERS],
+    group: &[u32; ORDER_COUNT],
+    subgroup: &[u32; ORDER_COUNT],
+    smoothed: &[u32; ORDER_COUNT],
     buffer: &mut [u8],
 ) -> Answer
     ensures { λ r. ⌜ r ≡ listingAnswer (now (buffer .entry)) (now (group .entry)) (now (subgroup .entry)) (now (smoothed .entry)) ⌝ }
@@ -83,17 +82,17 @@ fn put_refusal_line(buffer: &mut [u8], refusal: u32)
 fn put_orders(
     buffer: &mut [u8],
     start: usize,
-    group: &[u32; ORDERS],
-    subgroup: &[u32; ORDERS],
-    smoothed: &[u32; ORDERS],
+    group: &[u32; ORDER_COUNT],
+    subgroup: &[u32; ORDER_COUNT],
+    smoothed: &[u32; ORDER_COUNT],
 ) -> usize
-    requires { ⌜ start + lineLength * orders ≤ length (now buffer) ⌝ }
-    ensures { λ r. ⌜ Put (now (buffer .entry)) start (ordersText orders (now (group .entry)) (now (subgroup .entry)) (now (smoothed .entry))) r (now (buffer .exit)) ⌝ }
-    ensures { λ r. ⌜ r ≤ start + lineLength * orders ⌝ }
+    requires { ⌜ start + lineLength * orderCount ≤ length (now buffer) ⌝ }
+    ensures { λ r. ⌜ Put (now (buffer .entry)) start (ordersText orderCount (now (group .entry)) (now (subgroup .entry)) (now (smoothed .entry))) r (now (buffer .exit)) ⌝ }
+    ensures { λ r. ⌜ r ≤ start + lineLength * orderCount ⌝ }
 {
     let mut at = start;
     let mut done = 0;
-    while done < ORDERS {
+    while done < ORDER_COUNT {
         at = put_order(
             buffer,
             at,
@@ -116,7 +115,7 @@ fn put_order(
     subgroup: u32,
     smoothed: u32,
 ) -> usize
-    requires { ⌜ order ≤ orders ⌝ }
+    requires { ⌜ order ≤ orderCount ⌝ }
     requires { ⌜ at + lineLength ≤ length (now buffer) ⌝ }
     ensures { λ r. ⌜ Put (now (buffer .entry)) at (orderText order group subgroup smoothed) r (now (buffer .exit)) ⌝ }
     ensures { λ r. ⌜ r ≤ at + lineLength ⌝ }
@@ -152,7 +151,7 @@ fn put_line(
     subgroup: u32,
     smoothed: u32,
 ) -> usize
-    requires { ⌜ order ≤ orders ⌝ }
+    requires { ⌜ order ≤ orderCount ⌝ }
     requires { ⌜ at + lineLength ≤ length (now buffer) ⌝ }
     ensures { λ r. ⌜ Put (now (buffer .entry)) at (orderLine order group subgroup smoothed) r (now (buffer .exit)) ⌝ }
 {

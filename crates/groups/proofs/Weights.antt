@@ -1,7 +1,7 @@
--- Laws of the weighted sum over any list of weights: additive, never falling, at most the total weight times the largest line.
+-- Laws of the weighted sum over any list of weights: one line more, lines that are alike, at most the total weight times the largest line.
 -- Of the kinds' own lists: for systems 10 and 12 twice the weights add up to at most 24, and for orders 1..40 every line number is below 512.
 -- Assumes nothing.
-use mathlib.Core.Path.{_≡_, refl, sym, _∙_}
+use mathlib.Core.Path.{_≡_, refl, sym, ap, _∙_}
 use mathlib.Core.Bool.{Bool, true, false, _||_, _&&_, true≢false}
 use mathlib.Core.Logic.{_⊎_, inl, inr, ⊎-elim}
 use mathlib.Core.List.{List, [], _∷_, _++_}
@@ -12,56 +12,41 @@ use native.Mathlib.Omega.{arith}
 use lib.Dec.{eqb, leb, ltb}
 use borrow.Author.Tests.{eqb-true, leb-true, ltb-true}
 use Rattle.algebra.specs.Lists.{tabulate}
+use Rattle.algebra.specs.Weighted.{sumOver, Everywhere}
+use Rattle.algebra.proofs.Weighted.{sumOver-append, sumOver-eq, sumOver-le-multiple, everywhere-append, everywhere-imp, everywhere-all}
 use Rattle.spectrum.specs.Line.{lineCount}
 use Rattle.groups.specs.declared.Kind.{Kind}
 use Rattle.groups.specs.declared.Kind.the-variants.{Component, HarmonicGroup, HarmonicSubgroup, InterharmonicGroup, InterharmonicCentredSubgroup}
 use Rattle.groups.specs.Weights.{Weighted, wholeLine, halfLine, wholeLines, weightsOf, weightedSum}
 use Rattle.groups.specs.Group.{isSystem, isOrder, orderCount}
 
--- what holds of the number of every line in a list of weights
-unfoldable pub EveryLine : (ℕ → Type 0) → List Weighted → Type 0
-EveryLine P [] = Unit {0}
-EveryLine P (x ∷ xs) = P (x .line) × EveryLine P xs
+-- a fact of the number of every line in a list of weights
+abbrev pub EveryLine : (ℕ → Type 0) → List Weighted → Type 0
+EveryLine P xs = Everywhere (λ x. P (x .line)) xs
 
 -- twice the weights, added up
 abbrev pub totalTwiceWeight : List Weighted → ℕ
-totalTwiceWeight xs = weightedSum (λ k. 1) xs
+totalTwiceWeight xs = sumOver (λ x. x .twiceWeight) xs
 
-pub every-append : (P : ℕ → Type 0) (xs ys : List Weighted) → EveryLine P xs → EveryLine P ys → EveryLine P (xs ++ ys)
-unfolding EveryLine
-every-append P [] ys p q = q
-every-append P (x ∷ xs) ys p q = (p .0, every-append P xs ys (p .1) q)
-
-pub every-wholeLines : (P : ℕ → Type 0) (first count : ℕ) → ((i : ℕ) → i < count → P (first + i)) → EveryLine P (wholeLines first count)
-unfolding EveryLine wholeLines tabulate
+every-wholeLines : (P : ℕ → Type 0) (first count : ℕ) → ((i : ℕ) → i < count → P (first + i)) → EveryLine P (wholeLines first count)
+unfolding wholeLines tabulate
 every-wholeLines P first zero p = tt
 every-wholeLines P first (suc count) p =
-    every-append P (wholeLines first count) (wholeLine (first + count) ∷ [])
+    everywhere-append _ (wholeLines first count) (wholeLine (first + count) ∷ [])
     (every-wholeLines P first count (λ i h. p i (omega arith)))
     (p count (omega arith), tt)
 
--- what holds of every line number holds of those of any list
-pub every-of-all : (P : ℕ → Type 0) → ((k : ℕ) → P k) → (xs : List Weighted) → EveryLine P xs
-unfolding EveryLine
-every-of-all P p [] = tt
-every-of-all P p (x ∷ xs) = (p (x .line), every-of-all P p xs)
-
 module _ (f : ℕ → ℕ) where
-  pub weightedSum-append : (xs ys : List Weighted) → weightedSum f (xs ++ ys) ≡ weightedSum f xs + weightedSum f ys
-  unfolding weightedSum
-  weightedSum-append [] ys = omega arith
-  weightedSum-append (x ∷ xs) ys = rw (weightedSum-append xs ys) (omega arith)
-
   -- lines between two with weight 1/2
   pub weightedSum-edges : (first last : ℕ) (xs : List Weighted) → weightedSum f (halfLine first ∷ xs ++ (halfLine last ∷ [])) ≡ f first + weightedSum f xs + f last
-  unfolding weightedSum
-  weightedSum-edges first last xs = rw (weightedSum-append xs (halfLine last ∷ [])) (omega arith)
+  unfolding weightedSum sumOver
+  weightedSum-edges first last xs = rw (sumOver-append _ xs (halfLine last ∷ [])) (omega arith)
 
   -- one more line with weight 1
   pub weightedSum-wholeLines-suc : (first count : ℕ) → weightedSum f (wholeLines first (count + 1)) ≡ weightedSum f (wholeLines first count) + 2 * f (first + count)
-  unfolding weightedSum wholeLines tabulate
+  unfolding weightedSum sumOver wholeLines tabulate
   weightedSum-wholeLines-suc first count =
-      rw (add-one count, weightedSum-append (wholeLines first count) (wholeLine (first + count) ∷ [])) (omega arith)
+      rw (add-one count, sumOver-append _ (wholeLines first count) (wholeLine (first + count) ∷ [])) (omega arith)
 
   -- fewer lines have no larger sum
   pub weightedSum-wholeLines-le : (first i count : ℕ) → i ≤ count → weightedSum f (wholeLines first i) ≤ weightedSum f (wholeLines first count)
@@ -74,35 +59,28 @@ module _ (f : ℕ → ℕ) where
       (omega (arith, weightedSum-wholeLines-suc first count, weightedSum-wholeLines-le first i count (le-of-suc-le-suc l))))
       (eq-or-lt-of-le h)
 
-  module _ (g : ℕ → ℕ) where
-    pub weightedSum-eq : (xs : List Weighted) → EveryLine (λ k. f k ≡ g k) xs → weightedSum f xs ≡ weightedSum g xs
-    unfolding weightedSum EveryLine
-    weightedSum-eq [] e = refl
-    weightedSum-eq (x ∷ xs) e = rw (e .0, weightedSum-eq xs (e .1))
-
-    pub weightedSum-le : (xs : List Weighted) → EveryLine (λ k. f k ≤ g k) xs → weightedSum f xs ≤ weightedSum g xs
-    unfolding weightedSum EveryLine
-    weightedSum-le [] h = omega arith
-    weightedSum-le (x ∷ xs) h =
-        omega (arith, mul-le-mul-left (x .twiceWeight) (h .0), weightedSum-le xs (h .1))
+  -- lines that are alike have the same sum
+  pub weightedSum-eq : (g : ℕ → ℕ) (xs : List Weighted) → EveryLine (λ k. f k ≡ g k) xs → weightedSum f xs ≡ weightedSum g xs
+  unfolding weightedSum
+  weightedSum-eq g xs e = sumOver-eq _ _ xs (everywhere-imp _ _ (λ x same. ap (λ line. x .twiceWeight * line) same) xs e)
 
   -- no line above m: the sum is at most the total weight times m
-  pub weightedSum-le-total : (m : ℕ) (xs : List Weighted) → EveryLine (λ k. f k ≤ m) xs → weightedSum f xs ≤ totalTwiceWeight xs * m
-  unfolding weightedSum EveryLine
-  weightedSum-le-total m [] h = omega arith
-  weightedSum-le-total m (x ∷ xs) h =
-      omega (arith, mul-le-mul-left (x .twiceWeight) (h .0), weightedSum-le-total m xs (h .1))
+  pub weightedSum-le-total : (m : ℕ) → ((k : ℕ) → f k ≤ m) → (xs : List Weighted) → weightedSum f xs ≤ totalTwiceWeight xs * m
+  unfolding weightedSum
+  weightedSum-le-total m h xs =
+      sumOver-le-multiple _ (λ x. x .twiceWeight) m xs
+      (everywhere-all _ (λ x. mul-le-mul-left (x .twiceWeight) (h (x .line))) xs)
 
 -- a single line
 pub wholeLines-one : (k : ℕ) → wholeLines k 1 ≡ wholeLine k ∷ []
 unfolding wholeLines tabulate
 wholeLines-one k = let e : k + 0 ≡ k = omega arith in rw e
 
-pub total-wholeLines : (first count : ℕ) → totalTwiceWeight (wholeLines first count) ≡ 2 * count
-unfolding weightedSum wholeLines tabulate
+total-wholeLines : (first count : ℕ) → totalTwiceWeight (wholeLines first count) ≡ 2 * count
+unfolding sumOver wholeLines tabulate
 total-wholeLines first zero = refl
 total-wholeLines first (suc count) =
-    rw (weightedSum-append (λ k. 1) (wholeLines first count) (wholeLine (first + count) ∷ []), total-wholeLines first count) (omega arith)
+    rw (sumOver-append _ (wholeLines first count) (wholeLine (first + count) ∷ []), total-wholeLines first count) (omega arith)
 
 -- a system is 10 or 12
 pub system-cases : (n : ℕ) → isSystem n ≡ true → (n ≡ 10) ⊎ (n ≡ 12)
@@ -153,19 +131,19 @@ abbrev pub largestTotal : ℕ
 largestTotal = 24
 
 pub weights-total-le : (kind : Kind) (n h : ℕ) → isSystem n ≡ true → totalTwiceWeight (weightsOf kind n h) ≤ largestTotal
-unfolding weightsOf weightedSum
+unfolding weightsOf sumOver
 weights-total-le kind n h e = go kind (system-bounds n e)
   where
     go : (kind : Kind) → SystemBounds n → totalTwiceWeight (weightsOf kind n h) ≤ largestTotal
     go Component s = omega arith
-    go HarmonicGroup s = simp (weightedSum-append, total-wholeLines) (omega arith)
+    go HarmonicGroup s = simp (sumOver-append, total-wholeLines) (omega arith)
     go HarmonicSubgroup s = simp total-wholeLines (omega arith)
     go InterharmonicGroup s = simp total-wholeLines (omega arith)
     go InterharmonicCentredSubgroup s = simp total-wholeLines (omega arith)
 
 -- the lines of every kind are among the 512
 pub weights-line-lt : (kind : Kind) (n h : ℕ) → isSystem n ≡ true → isOrder h ≡ true → EveryLine (λ k. k < lineCount) (weightsOf kind n h)
-unfolding weightsOf EveryLine
+unfolding weightsOf
 weights-line-lt kind n h e o = go kind (system-bounds n e) (centre-bounds n h e o)
   where
     go : (kind : Kind) → SystemBounds n → CentreBounds n h → EveryLine (λ k. k < lineCount) (weightsOf kind n h)
@@ -174,7 +152,7 @@ weights-line-lt kind n h e o = go kind (system-bounds n e) (centre-bounds n h e 
         let between = wholeLines (n * h - n / 2 + 1) (n - 1) in
         let last = halfLine (n * h + n / 2) ∷ [] in (
           omega arith,
-          every-append _ between last (every-wholeLines _ _ _ (λ i l. omega arith)) (omega arith, tt),
+          everywhere-append _ between last (every-wholeLines _ _ _ (λ i l. omega arith)) (omega arith, tt),
         )
     go HarmonicSubgroup s b = every-wholeLines _ _ _ (λ i l. omega arith)
     go InterharmonicGroup s b = every-wholeLines _ _ _ (λ i l. omega arith)

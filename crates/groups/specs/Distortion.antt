@@ -1,16 +1,16 @@
 -- Group distortion of a row (document 01, "Groups" and the refusal table's row "distortion").
 use mathlib.Core.List.{List, [], _∷_}
-use Prim.Native.Nat.{ℕ, _+_, _*_}
+use Prim.Native.Nat.{ℕ, _*_}
 use lib.Dec.{eqb, leb}
 use lib.ListN.{getD, drop}
 use Rattle.algebra.specs.Largest.{largest}
+use Rattle.algebra.specs.Weighted.{sumOver}
 use Rattle.refusals.specs.Numbers.{noFundamental}
 use Rattle.refusals.specs.Answers.{firstFault, answer}
 use Rattle.refusals.specs.declared.Answer.{Answer}
 
 unfoldable pub sumOfSquares : List ℕ → ℕ
-sumOfSquares [] = 0
-sumOfSquares (r ∷ rs) = r * r + sumOfSquares rs
+sumOfSquares values = sumOver (λ r. r * r) values
 
 -- the square of the parts per thousand in 1
 abbrev pub squaredThousand : ℕ

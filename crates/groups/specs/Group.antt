@@ -1,16 +1,17 @@
 -- The group value and what the call answers (document 01, "Groups" and the refusal table's row "group value").
 use mathlib.Core.Bool.{Bool, not, _&&_, _||_}
 use mathlib.Core.List.{List, [], _∷_}
-use Prim.Native.Nat.{ℕ, _^_}
+use Prim.Native.Nat.{ℕ, _+_, _^_}
 use lib.Dec.{eqb, leb, ltb}
 use lib.ListN.{length, getD}
-use Rattle.algebra.specs.Lists.{anyOf}
+use Rattle.algebra.specs.Lists.{tabulate, anyOf}
 use Rattle.integers.specs.Root.{rootOf}
 use Rattle.refusals.specs.Numbers.{unknownSystem, orderOutOfRange, wrongLineCount, lineTooLarge}
 use Rattle.refusals.specs.Answers.{firstFault, answer}
 use Rattle.refusals.specs.declared.Answer.{Answer}
 use Rattle.spectrum.specs.Line.{lineCount}
 use Rattle.groups.specs.declared.Kind.{Kind}
+use Rattle.groups.specs.declared.OrderValues.{OrderValues}
 use Rattle.groups.specs.Weights.{weightsOf, weightedSum}
 
 -- the orders of a group: 1..40
@@ -48,3 +49,12 @@ groupRefusal system order lines =
 
 unfoldable pub groupAnswer : Kind → ℕ → ℕ → List ℕ → Answer
 groupAnswer kind system order lines = answer (groupRefusal system order lines) (groupValue kind system order lines)
+
+-- the values that are answered for the orders 1..40, at the places 0..39: those of a row
+unfoldable pub groupValues : Kind → ℕ → List ℕ → List ℕ
+groupValues kind system lines = tabulate orderCount (λ i. groupAnswer kind system (i + 1) lines .value)
+
+-- all of them in one call, with the refusal of order 1, which the others share
+unfoldable pub groupValuesAnswer : Kind → ℕ → List ℕ → OrderValues
+groupValuesAnswer kind system lines =
+    record { refusal = groupRefusal system 1 lines; values = groupValues kind system lines }

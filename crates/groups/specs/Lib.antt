@@ -2,5 +2,5 @@
 pub mod Weights
 pub mod Exact
 pub mod Group
-pub mod Limbs
+pub mod FirstValues
 pub mod Distortion

@@ -2,6 +2,7 @@
 use mathlib.Core.List.{List, [], _∷_, _++_}
 use Prim.Native.Nat.{ℕ, _+_, _-_, _*_, _/_}
 use Rattle.algebra.specs.Lists.{tabulate}
+use Rattle.algebra.specs.Weighted.{sumOver}
 use Rattle.groups.specs.declared.Kind.{Kind}
 use Rattle.groups.specs.declared.Kind.the-variants.{Component, HarmonicGroup, HarmonicSubgroup, InterharmonicGroup, InterharmonicCentredSubgroup}
 
@@ -32,5 +33,4 @@ weightsOf InterharmonicCentredSubgroup n h = wholeLines (n * h + 2) (n - 3)
 
 -- the sum of 2×w×L over some lines, L given by the line's number
 unfoldable pub weightedSum : (ℕ → ℕ) → List Weighted → ℕ
-weightedSum lineAt [] = 0
-weightedSum lineAt (x ∷ xs) = x .twiceWeight * lineAt (x .line) + weightedSum lineAt xs
+weightedSum lineAt xs = sumOver (λ x. x .twiceWeight * lineAt (x .line)) xs

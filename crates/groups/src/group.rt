@@ -1,6 +1,7 @@
-// The group value of a kind, a system and an order over the 512 lines of a window.
+// The group value of a kind, a system and an order over the 512 lines of a window, and the values of all orders.
 use crate::Kind;
 use crate::ORDER_COUNT;
+use crate::OrderValues;
 use integers::lists::any_above;
 use integers::square_root::root;
 use refusals::Answer;
@@ -16,7 +17,7 @@ ghost use Prim.Native.Nat.{_+_, _^_, _≤_, _<_};
 ghost use lib.ListN.{length};
 ghost use Rattle.refusals.specs.Numbers.{noRefusal};
 ghost use Rattle.groups.specs.Weights.{wholeLines, halfLine, weightsOf, weightedSum};
-ghost use Rattle.groups.specs.Group.{isSystem, isOrder, lineAt, groupRefusal, groupAnswer};
+ghost use Rattle.groups.specs.Group.{isSystem, isOrder, lineAt, groupRefusal, groupValue, groupAnswer, groupValues, groupValuesAnswer};
 
 // The largest line that is taken.
 const LARGEST_LINE: u64 = 1 << 59;
@@ -102,7 +103,15 @@ fn weighted_sum(kind: Kind, system: usize, order: usize, lines: &[u64]) -> u64
     }
 }
 
-// The group value: the whole part of the square root of the sum of 2×w×L, or the refusal.
+// The whole part of the square root of that sum, for a call that is not refused.
+fn value_of(kind: Kind, system: u32, order: u32, lines: &[u64]) -> u32
+    requires { ⌜ groupRefusal system order (now lines) ≡ noRefusal ⌝ }
+    ensures { λ r. ⌜ r ≡ groupValue kind system order (now (lines .entry)) ⌝ }
+{
+    root(weighted_sum(kind, system as usize, order as usize, lines))
+}
+
+// The group value of an order, or the refusal.
 pub fn group_value(kind: Kind, system: u32, order: u32, lines: &[u64]) -> Answer
     ensures { λ r. ⌜ r ≡ groupAnswer kind system order (now (lines .entry)) ⌝ }
 {
@@ -110,9 +119,39 @@ pub fn group_value(kind: Kind, system: u32, order: u32, lines: &[u64]) -> Answer
     if refusal != NO_REFUSAL {
         return Answer { refusal, value: 0 };
     }
-    let sum = weighted_sum(kind, system as usize, order as usize, lines);
     Answer {
         refusal,
-        value: root(sum) as u64,
+        value: value_of(kind, system, order, lines) as u64,
+    }
+}
+
+// The values of the orders 1..40, for lines that are not refused.
+fn values_of(kind: Kind, system: u32, lines: &[u64]) -> [u32; ORDER_COUNT]
+    requires { ⌜ groupRefusal system 1 (now lines) ≡ noRefusal ⌝ }
+    ensures { λ r. ⌜ r ≡ groupValues kind system (now (lines .entry)) ⌝ }
+{
+    let mut values = [0; ORDER_COUNT];
+    let mut i = 0;
+    while i < ORDER_COUNT {
+        values[i] = value_of(kind, system, i as u32 + 1, lines);
+        i += 1;
+    }
+    values
+}
+
+// The group values of the orders 1..40, or the refusal that they share. The lines are looked over once.
+pub fn group_values(kind: Kind, system: u32, lines: &[u64]) -> OrderValues
+    ensures { λ r. ⌜ r ≡ groupValuesAnswer kind system (now (lines .entry)) ⌝ }
+{
+    let refusal = group_refusal(system, 1, lines);
+    if refusal != NO_REFUSAL {
+        return OrderValues {
+            refusal,
+            values: [0; ORDER_COUNT],
+        };
+    }
+    OrderValues {
+        refusal,
+        values: values_of(kind, system, lines),
     }
 }

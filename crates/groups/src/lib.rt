@@ -2,11 +2,13 @@
 
 mod group;
 mod row_distortion;
-mod wide_root;
+mod row_words;
 
 pub use group::group_value;
+pub use group::group_values;
 pub use group::is_system;
 pub use row_distortion::distortion;
+pub use row_words::first_values;
 
 // The orders of a group are 1..ORDER_COUNT.
 pub const ORDER_COUNT: usize = 40;
@@ -18,4 +20,10 @@ pub enum Kind {
     HarmonicSubgroup,
     InterharmonicGroup,
     InterharmonicCentredSubgroup,
+}
+
+// What a call for all orders answers: NO_REFUSAL with the values of the orders 1..40 at the places 0..39, or a refusal's number with zeros.
+pub struct OrderValues {
+    pub refusal: u32,
+    pub values: [u32; ORDER_COUNT],
 }

@@ -6,6 +6,7 @@
 use columns::LISTING_ROOM;
 use libc::STDIN_FILENO;
 use libc::STDOUT_FILENO;
+use observation::MOST_WINDOWS;
 use recordings::LINE_BYTES;
 use recordings::Reading;
 use recordings::WINDOW_BYTES;
@@ -15,7 +16,7 @@ use recordings::take_block;
 use refusals::NO_REFUSAL;
 
 // After so many whole windows a reading is refused, so that no input is read further.
-const MOST_BLOCKS: u32 = 45001;
+const MOST_BLOCKS: u32 = MOST_WINDOWS + 1;
 
 // A reading, and whether more of the input may follow.
 struct Turn {

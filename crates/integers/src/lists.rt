@@ -1,7 +1,19 @@
-// Tests over a lent list of whole numbers.
+// Lent lists of whole numbers: an element with its place, and a test over all.
 ghost use mathlib.Core.Path.{_≡_};
 ghost use lib.Dec.{ltb};
+ghost use lib.ListN.{getD};
 ghost use Rattle.algebra.specs.Lists.{anyOf};
+
+// The number at a place of the list, 0 past its end.
+pub fn number_at(numbers: &[u32], place: usize) -> u32
+    ensures { λ r. ⌜ r ≡ getD (now (numbers .entry)) place 0 ⌝ }
+{
+    if place < numbers.len() {
+        numbers[place]
+    } else {
+        0
+    }
+}
 
 // Whether some number of the list is above the limit.
 pub fn any_above(numbers: &[u64], limit: u64) -> bool

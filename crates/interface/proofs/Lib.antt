@@ -1,6 +1,5 @@
 -- What the proofs of several exported functions use.
 pub mod ColumnCases
-pub mod GroupRow
 pub mod Handed
 pub mod ListingReceived
 pub mod RecordWords

@@ -1,10 +1,8 @@
 -- What the calls of groups, of a row of groups and of its distortion answer: document 01, "Groups", after the interface's own checks.
 use mathlib.Core.List.{List, [], _∷_}
-use Prim.Native.Nat.{ℕ, _+_}
-use Rattle.algebra.specs.Lists.{tabulate}
+use Prim.Native.Nat.{ℕ}
 use Rattle.refusals.specs.Answers.{unlessRefused}
-use Rattle.groups.specs.declared.Kind.{Kind}
-use Rattle.groups.specs.Group.{orderCount, groupValue, groupRefusal}
+use Rattle.groups.specs.Group.{orderCount, groupValue, groupRefusal, groupValues}
 use Rattle.groups.specs.Distortion.{distortionOf, distortionAnswer}
 use Rattle.interface.specs.Refusals.{ownFirst, wordCountCheck}
 use Rattle.interface.specs.Kinds.{kindWith, kindCheck}
@@ -19,10 +17,6 @@ unfoldable pub groupCallValue : ℕ → ℕ → ℕ → List ℕ → ℕ → ℕ
 groupCallValue kind system order lines value =
     unlessRefused (groupCallRefusal kind system order lines) (groupValue (kindWith kind) system order lines) value
 
--- the 40 values of a kind, the orders 1..40 at the places 0..39
-unfoldable pub rowOf : Kind → ℕ → List ℕ → List ℕ
-rowOf kind system lines = tabulate orderCount (λ i. groupValue kind system (i + 1) lines)
-
 -- 101; 102; then the row "group value" at order 1, which every order of a row shares
 unfoldable pub rowCallRefusal : ℕ → ℕ → List ℕ → List ℕ → ℕ
 rowCallRefusal kind system lines values =
@@ -30,7 +24,7 @@ rowCallRefusal kind system lines values =
 
 unfoldable pub rowCallValues : ℕ → ℕ → List ℕ → List ℕ → List ℕ
 rowCallValues kind system lines values =
-    unlessRefused (rowCallRefusal kind system lines values) (rowOf (kindWith kind) system lines) values
+    unlessRefused (rowCallRefusal kind system lines values) (groupValues (kindWith kind) system lines) values
 
 -- 102; then the row "distortion"
 unfoldable pub distortionCallRefusal : List ℕ → ℕ

@@ -2,16 +2,13 @@
 use crate::UNKNOWN_KIND;
 use crate::WRONG_WORD_COUNT;
 use crate::words::hand_over;
+use crate::words::hand_over_values;
 use crate::words::row_values;
 use groups::Kind;
 use groups::ORDER_COUNT;
-use refusals::NO_REFUSAL;
 ghost use mathlib.Core.Path.{_≡_};
-ghost use lib.ListN.{length};
-ghost use Rattle.refusals.specs.Numbers.{noRefusal};
-ghost use Rattle.groups.specs.Group.{orderCount, groupRefusal};
 ghost use Rattle.interface.specs.Kinds.{isKind, kindWith};
-ghost use Rattle.interface.specs.GroupCalls.{groupCallRefusal, groupCallValue, rowOf, rowCallRefusal, rowCallValues, distortionCallRefusal, distortionCallValue};
+ghost use Rattle.interface.specs.GroupCalls.{groupCallRefusal, groupCallValue, rowCallRefusal, rowCallValues, distortionCallRefusal, distortionCallValue};
 
 // The kinds have the numbers 0..KIND_COUNT - 1.
 const KIND_COUNT: u32 = 5;
@@ -54,20 +51,6 @@ pub extern "C" fn kifsang_group_value(
     hand_over(answer, value)
 }
 
-// Writes the 40 values of a kind over lines that are not refused.
-fn fill_row(kind: u32, system: u32, lines: &[u64], values: &mut [u32])
-    requires { ⌜ groupRefusal system 1 (now lines) ≡ noRefusal ⌝ }
-    requires { ⌜ length (now values) ≡ orderCount ⌝ }
-    ensures { λ _. ⌜ now (values .exit) ≡ rowOf (kindWith kind) system (now (lines .entry)) ⌝ }
-{
-    let mut i: usize = 0;
-    while i < ORDER_COUNT {
-        let answer = groups::group_value(kind_with(kind), system, i as u32 + 1, lines);
-        values[i] = answer.value as u32;
-        i += 1;
-    }
-}
-
 // Writes the 40 values of a kind.
 #[no_mangle]
 pub extern "C" fn kifsang_row(kind: u32, system: u32, lines: &[u64], values: &mut [u32]) -> u32
@@ -80,13 +63,7 @@ pub extern "C" fn kifsang_row(kind: u32, system: u32, lines: &[u64], values: &mu
     if values.len() != ORDER_COUNT {
         return WRONG_WORD_COUNT;
     }
-    let first = groups::group_value(kind_with(kind), system, 1, lines);
-    let refusal = first.refusal;
-    if refusal != NO_REFUSAL {
-        return refusal;
-    }
-    fill_row(kind, system, lines, values);
-    NO_REFUSAL
+    hand_over_values(groups::group_values(kind_with(kind), system, lines), values)
 }
 
 // Writes the distortion of a row, in parts per thousand.

@@ -24,7 +24,7 @@ const SUM_PLACE: usize = SMOOTHED_PLACE + ORDER_COUNT;
 
 const PEAK_PLACE: usize = SUM_PLACE + ORDER_COUNT;
 // The words of a record.
-pub const RECORD_WORDS: usize = PEAK_PLACE + ORDER_COUNT;
+pub(crate) const RECORD_WORDS: usize = PEAK_PLACE + ORDER_COUNT;
 // The largest system and the largest count of windows that the library's record holds: 2^32 - 1.
 const LARGEST_COUNT: u64 = 4294967295;
 
@@ -57,7 +57,7 @@ fn put_values(words: &mut [u64], place: usize, values: &[u64])
 
 // The system and the count of windows have 32 bits, as in the library. A record where one has not
 // is not sound.
-pub fn counts_fit(words: &[u64]) -> bool
+pub(crate) fn counts_fit(words: &[u64]) -> bool
     requires { ⌜ length (now words) ≡ recordWords ⌝ }
     ensures { λ r. ⌜ r ≡ countsFit (now (words .entry)) ⌝ }
 {
@@ -65,7 +65,7 @@ pub fn counts_fit(words: &[u64]) -> bool
 }
 
 // The record that some words hold.
-pub fn read_record(words: &[u64]) -> Observation
+pub(crate) fn read_record(words: &[u64]) -> Observation
     requires { ⌜ length (now words) ≡ recordWords ⌝ }
     requires { ⌜ countsFit (now words) ≡ true ⌝ }
     ensures { λ r. ⌜ r ≡ recordOf (now (words .entry)) ⌝ }
@@ -100,7 +100,7 @@ fn write_record(words: &mut [u64], observation: Observation)
 }
 
 // Hands a record to the caller: its words, unless the call was refused, and the refusal's number.
-pub fn hand_over_record(recorded: Recorded, words: &mut [u64]) -> u32
+pub(crate) fn hand_over_record(recorded: Recorded, words: &mut [u64]) -> u32
     requires { ⌜ length (now words) ≡ recordWords ⌝ }
     ensures { λ r. ⌜ r ≡ recorded .refusal ⌝ }
     ensures { λ _. ⌜ now (words .exit) ≡ unlessRefused (recorded .refusal) (wordsOf (recorded .observation)) (now (words .entry)) ⌝ }

@@ -5,8 +5,8 @@ use mathlib.Core.List.{List, [], _∷_, _++_}
 use Prim.Native.Nat.{ℕ, zero, suc, _+_, _*_, _/_, _<_, _≤_}
 use native.Mathlib.Numerals.{add-one}
 use native.Mathlib.Omega.{arith}
-use lib.ListN.{length, getD, take, drop, length-drop}
-use lib.Seq.{length-take-le, getD-take, getD-drop, ext-getD}
+use lib.ListN.{length, getD, take, drop}
+use lib.Seq.{getD-drop}
 use Rattle.algebra.specs.Lists.{tabulate}
 use Rattle.algebra.proofs.Lists.{length-tabulate, getD-tabulate}
 use Rattle.groups.specs.Group.{orderCount}
@@ -28,17 +28,6 @@ record-after-snoc o (first ∷ rows) row = record-after-snoc (addRowAnswer o fir
 pub record-after-tabulate : (o : Observation) (n : ℕ) (rowOf : ℕ → Row) → recordAfter o (tabulate (n + 1) rowOf) ≡ addRowAnswer (recordAfter o (tabulate n rowOf)) (rowOf n) .observation
 unfolding tabulate
 record-after-tabulate o n rowOf = rw (add-one n) (record-after-snoc o (tabulate n rowOf) (rowOf n))
-
--- a part of a list, place by place
-pub tabulate-part : (l : List ℕ) (start n : ℕ) → start + n ≤ length l → tabulate n (λ j. getD l (start + j) 0) ≡ take n (drop start l)
-tabulate-part l start n room =
-    let fits : n ≤ length (drop start l) = simp length-drop (omega arith) in
-    let long : length (tabulate n (λ j. getD l (start + j) 0)) ≡ n = length-tabulate n (λ j. getD l (start + j) 0) in
-    ext-getD 0 _ _ (long ∙ sym (length-take-le n (drop start l) fits))
-    (λ j inside.
-    let below : j < n = rw long at inside in
-    getD-tabulate n (λ j. getD l (start + j) 0) j 0 below ∙
-    sym (getD-take n (drop start l) j 0 below ∙ getD-drop start l j 0))
 
 -- rows that all hold values of 32 bits, the accepted ones with them
 pub accepted-fit-of-each : (rows : List Row) (other : Row) (system count : ℕ) → ((k : ℕ) → k < length rows → ValuesFit (getD rows k other)) → AcceptedFit system count rows

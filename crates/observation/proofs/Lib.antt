@@ -1,5 +1,4 @@
 -- The theorems of the observation record.
-pub mod Filling
 pub mod NoneAbove
 pub mod Smoothed
 pub mod SoundRecord

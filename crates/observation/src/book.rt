@@ -7,11 +7,11 @@ ghost use Rattle.observation.specs.Soundness.{mostWindows, largestValue}
 ghost use Rattle.observation.specs.OrderBook.{reportedBook};
 
 // The reported book of one order.
-pub struct OrderBook {
-    pub count: u32,
-    pub smoothed: u64,
-    pub sum: u64,
-    pub peak: u64,
+pub(crate) struct OrderBook {
+    pub(crate) count: u32,
+    pub(crate) smoothed: u64,
+    pub(crate) sum: u64,
+    pub(crate) peak: u64,
 }
 
 // The weights of a new value and of the old smoothed one: a time constant of 1.5 s at 0.2 s a window.
@@ -49,7 +49,7 @@ fn greater(a: u64, b: u64) -> u64
 }
 
 // The book with one value more.
-pub fn book_step(book: OrderBook, new: u32) -> OrderBook
+pub(crate) fn book_step(book: OrderBook, new: u32) -> OrderBook
     requires { ⌜ (book .count < mostWindows) × (book .smoothed ≤ largestValue) × (book .sum ≤ mostWindows * largestValue) ⌝ }
     ensures { λ r. ⌜ reportedBook r ≡ bookStep reported (reportedBook book) new ⌝ }
 {

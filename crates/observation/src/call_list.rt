@@ -3,6 +3,7 @@ use crate::Observation;
 use crate::Row;
 use crate::calls::add_row;
 use groups::ORDER_COUNT;
+use groups::first_values;
 ghost use mathlib.Core.Path.{_≡_};
 ghost use Prim.Native.Nat.{_+_, _*_, _≤_};
 ghost use lib.ListN.{length};
@@ -18,13 +19,7 @@ fn row_at(words: &[u32], i: usize) -> Row
 {
     let start = ROW_WORDS * i;
     let system = words[start];
-    let first = start + 1;
-    let mut values = [0; ORDER_COUNT];
-    let mut j = 0;
-    while j < ORDER_COUNT {
-        values[j] = words[first + j];
-        j += 1;
-    }
+    let values = first_values(&words[start + 1..start + ROW_WORDS]);
     Row { system, values }
 }
 

@@ -9,6 +9,7 @@ pub use call_list::add_rows;
 pub use calls::add_row;
 pub use calls::fresh_record;
 use groups::ORDER_COUNT;
+pub use soundness::MOST_WINDOWS;
 pub use soundness::is_sound;
 
 // The values of the 40 orders of one window, orders 1..40 at the places 0..39, with their system.

@@ -8,7 +8,7 @@ ghost use Rattle.observation.specs.Soundness.{noneAbove, allZero, isSoun
 // At most 45,000 windows, 2.5 hours.
 pub const MOST_WINDOWS: u32 = 45000;
 // The largest value of a row: 2^32 - 1.
-pub const LARGEST_VALUE: u64 = 4294967295;
+const LARGEST_VALUE: u64 = 4294967295;
 
 // No value is above the limit.
 fn none_above(values: &[u64], limit: u64) -> bool

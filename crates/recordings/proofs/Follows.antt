@@ -6,13 +6,13 @@ use mathlib.Core.List.{List, [], _∷_, _++_, append-nil, append-assoc}
 use mathlib.Core.Logic.{⊎-elim}
 use mathlib.Core.Path.{_≡_, refl, sym, ap, _∙_}
 use Prim.Native.Nat.{ℕ, zero, suc, _+_, _-_, _*_, _/_, _%_, _^_, _<_, _≤_}
-use native.Mathlib.Decide.{ℕ-discrete, decLe, decLt}
+use native.Mathlib.Decide.{ℕ-discrete, decLe}
 use native.Mathlib.Nat.{le-refl}
 use native.Mathlib.Omega.{arith}
 use borrow.Author.Tests.{eq-eqb, ne-eqb, le-leb, lt-leb, not-false}
 use lib.Dec.{eqb, leb}
 use lib.IntN.{ℤ, pos, negsuc, natAbs}
-use lib.ListN.{length, getD, length-append, List·getD-eq-default}
+use lib.ListN.{length, length-append}
 use Rattle.algebra.specs.Lists.{tabulate}
 use Rattle.algebra.proofs.Lists.{length-tabulate, getD-tabulate}
 use Rattle.refusals.specs.Numbers.{noRefusal, notAColumn, unknownSystem, shortWindow, noWindow, recordFull, wrongBufferLength}
@@ -21,7 +21,8 @@ use Rattle.columns.specs.Calls.{columnWidth}
 use Rattle.spectrum.specs.Line.{windowLength, linesOf}
 use Rattle.groups.specs.declared.Kind.{Kind}
 use Rattle.groups.specs.declared.Kind.the-variants.{HarmonicGroup, HarmonicSubgroup}
-use Rattle.groups.specs.Group.{isSystem, orderCount, groupAnswer}
+use Rattle.groups.specs.Group.{isSystem}
+use Rattle.groups.proofs.GroupSum.{group-values-le}
 use Rattle.observation.specs.declared.Row.{Row}
 use Rattle.observation.specs.declared.Observation.{Observation}
 use Rattle.observation.specs.declared.Recorded.{Recorded}
@@ -38,7 +39,6 @@ use Rattle.recordings.specs.Faults.{isNone, noSystem, lineFault, firstOf
 use Rattle.recordings.specs.Output.{systemIn, windowIn, windowCount, rowOf, rowsIn, recordIn, listingFor, harmlistOutput}
 use Rattle.recordings.specs.Reading.{windowBytes, beginOf, faultOfLines, blockLines, samplesOf, refusedWith, windowTaken, blockOf, outputOf}
 use Rattle.recordings.specs.Blocks.{joined, readingAfter, AllWhole, WholeButLast, FollowsDefinition, RefusedStays, StopsAtRefusal, RefusedWhenFull}
-use Rattle.recordings.proofs.GroupValue.{value-lt}
 use Rattle.recordings.proofs.NumberOnLine.{number-of-cut}
 use Rattle.recordings.proofs.FirstLine.{first-line-fault}
 use Rattle.recordings.proofs.BlockLaws.{lines-of-whole, lines-of-short, block-of-refused, block-of-none, block-of-fault, block-of-short, block-of-whole}
@@ -110,16 +110,7 @@ begins line e = record {
 -- the values of a row that is worked out are numbers of 32 bits
 row-fits : (kind : Kind) (system : ℕ) (window : List ℤ) → ValuesFit (rowOf kind system window)
 unfolding ValuesFit rowOf
-row-fits kind system window i = by-place (decLt i orderCount)
-  where
-    by-place : Dec (i < orderCount) → getD (tabulate orderCount (λ j. groupAnswer kind system (j + 1) (linesOf window) .value)) i 0 ≤ largestValue
-    by-place (yes h) =
-        rw (getD-tabulate orderCount (λ j. groupAnswer kind system (j + 1) (linesOf window) .value) i 0 h)
-        (omega (arith, value-lt kind system (i + 1) (linesOf window)))
-    by-place (no f) =
-        let long = length-tabulate orderCount (λ j. groupAnswer kind system (j + 1) (linesOf window) .value) in
-        rw (List·getD-eq-default (tabulate orderCount (λ j. groupAnswer kind system (j + 1) (linesOf window) .value)) 0 {n = i} (rw long (omega arith)))
-        (omega arith)
+row-fits kind system window i = group-values-le kind system (linesOf window) i
 
 system-of-row : (kind : Kind) (system : ℕ) (window : List ℤ) → rowOf kind system window .system ≡ system
 unfolding rowOf

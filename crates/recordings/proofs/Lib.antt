@@ -1,7 +1,6 @@
 -- The proofs of the functions, and the theorem that an input read in blocks gives what harmlist writes for it.
 pub mod FirstOf
 pub mod NumberOnLine
-pub mod GroupValue
 pub mod Samples
 pub mod BlockLaws
 pub mod FirstLine

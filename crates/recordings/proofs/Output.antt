@@ -6,10 +6,6 @@ use Prim.Native.Nat.{ℕ, _+_, _-_, _*_, _/_, _%_, _<_, _≤_}
 use native.Mathlib.Omega.{arith}
 use borrow.Author.Tests.{eq-eqb, ne-eqb, lt-ltb, le-ltb}
 use lib.Dec.{eqb, ltb}
-use lib.ListN.{length, getD}
-use lib.Seq.{ext-getD}
-use Rattle.algebra.specs.Lists.{tabulate}
-use Rattle.algebra.proofs.Lists.{length-tabulate, getD-tabulate}
 use Rattle.refusals.specs.Numbers.{noRefusal, shortWindow, unsoundRecord, noWindow, wrongBufferLength}
 use Rattle.columns.specs.Listing.{listingText, refusalLine}
 use Rattle.spectrum.specs.Line.{windowLength}
@@ -19,11 +15,6 @@ use Rattle.recordings.specs.Lines.{lineCountOf}
 use Rattle.recordings.specs.Faults.{faultBefore, endFault, inputRefusal}
 use Rattle.recordings.specs.Output.{listingFor, harmlistOutput}
 use Rattle.recordings.specs.Reading.{finishFault, outputOf}
-
-pub tabulate-whole : (l : List ℕ) (n : ℕ) → length l ≡ n → tabulate n (λ j. getD l j 0) ≡ l
-tabulate-whole l n e =
-    let long = length-tabulate n (λ j. getD l j 0) in
-    ext-getD 0 _ _ (long ∙ sym e) (λ j h. getD-tabulate n (λ j. getD l j 0) j 0 (rw long at h))
 
 module _ (reading : Reading) where
   pub finish-of-wide : wrongBufferLength < reading .refusal → finishFault reading ≡ unsoundRecord

@@ -1,24 +1,17 @@
 -- What the call `spectrum` leaves in the buffer of a window whose samples are in range. Assumes nothing.
 use mathlib.Core.Bool.{false}
 use mathlib.Core.List.{List}
-use mathlib.Core.Path.{_≡_, refl}
+use mathlib.Core.Path.{_≡_}
 use Prim.Native.Nat.{ℕ}
 use native.Mathlib.Omega.{arith}
 use lib.IntN.{ℤ}
 use lib.ListN.{length}
 use lib.Seq.{take-all}
 use Rattle.algebra.specs.Lists.{anyOf}
-use Rattle.groups.specs.declared.Kind.{Kind}
 use Rattle.spectrum.specs.Line.{windowLength, lineCount, windowAt, linesOf}
 use Rattle.spectrum.specs.Spectrum.{outOfRange, spectrumRefusal, spectrumBuffer}
-use Rattle.recordings.specs.Output.{rowOf}
-use Rattle.recordings.specs.Steps.{rowOfLines}
 
 pub lines-of-window : (window : List ℤ) (buffer : List ℕ) → length window ≡ windowLength → length buffer ≡ lineCount → anyOf outOfRange window ≡ false → spectrumBuffer window 0 buffer ≡ linesOf window
 unfolding spectrumBuffer spectrumRefusal windowAt
 lines-of-window window buffer long count e =
     rw (take-all windowLength window (omega arith), long, count, e)
-
-pub row-of-window : (kind : Kind) (system : ℕ) (window : List ℤ) → rowOfLines kind system (linesOf window) ≡ rowOf kind system window
-unfolding rowOfLines rowOf
-row-of-window kind system window = refl

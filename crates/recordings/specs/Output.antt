@@ -10,7 +10,7 @@ use Rattle.columns.specs.Listing.{listingText, refusalLine}
 use Rattle.spectrum.specs.Line.{windowLength, linesOf}
 use Rattle.groups.specs.declared.Kind.{Kind}
 use Rattle.groups.specs.declared.Kind.the-variants.{HarmonicGroup, HarmonicSubgroup}
-use Rattle.groups.specs.Group.{orderCount, groupAnswer}
+use Rattle.groups.specs.Group.{groupValues}
 use Rattle.observation.specs.declared.Row.{Row}
 use Rattle.observation.specs.declared.Observation.{Observation}
 use Rattle.observation.specs.Calls.{freshAnswer}
@@ -33,10 +33,7 @@ windowCount text = (lineCountOf text - 1) / windowLength
 -- the 40 values of a kind for a window, with their system
 unfoldable pub rowOf : Kind → ℕ → List ℤ → Row
 rowOf kind system window =
-    record {
-      system = system;
-      values = tabulate orderCount (λ i. groupAnswer kind system (i + 1) (linesOf window) .value);
-    }
+    record { system = system; values = groupValues kind system (linesOf window) }
 
 -- the rows of the first n windows
 unfoldable pub rowsIn : Kind → List ℕ → ℕ → List Row

@@ -10,9 +10,7 @@ use Rattle.algebra.specs.Lists.{tabulate}
 use Rattle.refusals.specs.Numbers.{noRefusal}
 use Rattle.refusals.specs.Answers.{unlessRefused}
 use Rattle.columns.specs.declared.Number.{Number}
-use Rattle.groups.specs.declared.Kind.{Kind}
-use Rattle.groups.specs.Group.{orderCount, groupAnswer}
-use Rattle.observation.specs.declared.Row.{Row}
+use Rattle.groups.specs.Group.{orderCount}
 use Rattle.observation.specs.declared.Observation.{Observation}
 use Rattle.recordings.specs.declared.Reading.{Reading}
 use Rattle.recordings.specs.Lines.{lineNumber, numberOr0, numberAt}
@@ -30,11 +28,6 @@ sampleOn line =
 pub record ReadInto (block : List ℕ) (count : ℕ) (before : List ℤ) (fault : ℕ) (after : List ℤ) : Type 0 where
   pub fault-is : fault ≡ faultOfLines block count
   pub samples-are : fault ≡ noRefusal → after ≡ tabulate count (numberAt block) ++ drop count before
-
--- the row of a kind for the lines of a window
-unfoldable pub rowOfLines : Kind → ℕ → List ℕ → Row
-rowOfLines kind system lines =
-    record { system = system; values = tabulate orderCount (λ i. groupAnswer kind system (i + 1) lines .value) }
 
 -- the number of the system line as a system: 0, which is none, where it is below 0 or too large for one
 unfoldable pub systemWord : ℤ → ℕ

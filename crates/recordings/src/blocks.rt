@@ -4,10 +4,12 @@ use crate::Reading;
 use crate::WINDOW_BYTES;
 use crate::lines::number_on_line;
 use crate::lines::read_samples;
-use crate::rows::row_of;
 use columns::COLUMN_WIDTH;
 use groups::Kind;
+use groups::ORDER_COUNT;
+use groups::group_values;
 use observation::Observation;
+use observation::Row;
 use observation::add_row;
 use observation::fresh_record;
 use refusals::NO_REFUSAL;
@@ -47,8 +49,8 @@ fn reading_of_none(refusal: u32, observation: Observation) -> Reading
     Reading {
         refusal,
         observation,
-        group: [0; 40],
-        subgroup: [0; 40],
+        group: [0; ORDER_COUNT],
+        subgroup: [0; ORDER_COUNT],
     }
 }
 
@@ -101,12 +103,16 @@ fn take_window(reading: Reading, samples: &[i32]) -> Reading
     spectrum(samples, 0, &mut lines);
     let observation = reading.observation;
     let system = observation.system;
-    let group_row = row_of(Kind::HarmonicGroup, system, &lines);
-    let subgroup_row = row_of(Kind::HarmonicSubgroup, system, &lines);
-    let added = add_row(observation, group_row);
+    let groups = group_values(Kind::HarmonicGroup, system, &lines);
+    let subgroups = group_values(Kind::HarmonicSubgroup, system, &lines);
+    let group = groups.values;
+    let subgroup = subgroups.values;
+    let row = Row {
+        system,
+        values: group,
+    };
+    let added = add_row(observation, row);
     let observation = added.observation;
-    let group = group_row.values;
-    let subgroup = subgroup_row.values;
     Reading {
         refusal: added.refusal,
         observation,

@@ -45,11 +45,11 @@ fn finish_fault(reading: Reading) -> u32
 }
 
 // The values, which fit 32 bits, in 32 bits each.
-fn narrowed(values: [u64; 40]) -> [u32; 40]
+fn narrowed(values: [u64; ORDER_COUNT]) -> [u32; ORDER_COUNT]
     requires { ⌜ noneAbove largestValue values ≡ true ⌝ }
     ensures { λ r. ⌜ r ≡ values ⌝ }
 {
-    let mut narrow = [0; 40];
+    let mut narrow = [0; ORDER_COUNT];
     let mut i = 0;
     while i < ORDER_COUNT {
         narrow[i] = values[i] as u32;

@@ -6,12 +6,12 @@
 mod blocks;
 mod ending;
 mod lines;
-mod rows;
 
 pub use blocks::begin;
 pub use blocks::take_block;
 use columns::COLUMN_WIDTH;
 pub use ending::finish;
+use groups::ORDER_COUNT;
 use observation::Observation;
 use spectrum::WINDOW_LENGTH;
 
@@ -25,6 +25,6 @@ pub const WINDOW_BYTES: usize = LINE_BYTES * WINDOW_LENGTH;
 pub struct Reading {
     pub refusal: u32,
     pub observation: Observation,
-    pub group: [u32; 40],
-    pub subgroup: [u32; 40],
+    pub group: [u32; ORDER_COUNT],
+    pub subgroup: [u32; ORDER_COUNT],
 }

@@ -7,20 +7,16 @@ use columns::read_column;
 use refusals::NO_REFUSAL;
 use refusals::NOT_A_COLUMN;
 use refusals::SAMPLE_OUT_OF_RANGE;
-use spectrum::LARGEST_SAMPLE;
+use spectrum::out_of_range;
 ghost use mathlib.Core.Path.{_≡_};
 ghost use Prim.Native.Nat.{_+_, _*_, _≤_, _<_};
 ghost use lib.ListN.{length};
 ghost use Rattle.columns.specs.Calls.{readingOf};
-ghost use Rattle.spectrum.specs.Spectrum.{outOfRange};
 ghost use Rattle.recordings.specs.Lines.{lineBytes, lineAt, lineNumber};
 ghost use Rattle.recordings.specs.Steps.{sampleOn, ReadInto};
 
-// The largest sample as a number of a column.
-const LARGEST_NUMBER: i64 = LARGEST_SAMPLE as i64;
-
 // The number on a line of the text, counted from 0, or 13.
-pub fn number_on_line(text: &[u8], line: usize) -> Number
+pub(crate) fn number_on_line(text: &[u8], line: usize) -> Number
     requires { ⌜ lineBytes * line ≤ length (now text) ⌝ }
     ensures { λ r. ⌜ r ≡ readingOf (lineNumber (lineAt (now (text .entry)) line)) ⌝ }
 {
@@ -41,12 +37,6 @@ pub fn number_on_line(text: &[u8], line: usize) -> Number
     read_column(&text[start..end])
 }
 
-fn out_of_range(sample: i64) -> bool
-    ensures { λ r. ⌜ r ≡ outOfRange sample ⌝ }
-{
-    sample < -LARGEST_NUMBER || LARGEST_NUMBER < sample
-}
-
 // The sample on a line of the text, or 13, or 3.
 fn sample_on_line(text: &[u8], line: usize) -> Number
     requires { ⌜ lineBytes * line ≤ length (now text) ⌝ }
@@ -63,7 +53,7 @@ fn sample_on_line(text: &[u8], line: usize) -> Number
 }
 
 // Reads the samples on the first lines of the block, and answers the first fault.
-pub fn read_samples(block: &[u8], count: usize, samples: &mut [i32]) -> u32
+pub(crate) fn read_samples(block: &[u8], count: usize, samples: &mut [i32]) -> u32
     requires { ⌜ count ≤ length (now samples) ⌝ }
     requires { ⌜ lineBytes * count < length (now block) + lineBytes ⌝ }
     ensures { λ r. ⌜ ReadInto (now (block .entry)) count (now (samples .entry)) r (now (samples .exit)) ⌝ }

@@ -23,7 +23,7 @@ pub const WINDOW_LENGTH: usize = 2048;
 // Lines of a spectrum.
 pub const LINE_COUNT: usize = 512;
 // The largest sample; the smallest is its negative.
-pub const LARGEST_SAMPLE: i32 = 131071;
+const LARGEST_SAMPLE: i64 = 131071;
 // What is added to an index for the sine.
 const SINE_PHASE: usize = 0;
 // What is added to an index for the cosine: a quarter turn.
@@ -33,7 +33,8 @@ const SUM_SHIFT: i64 = 29;
 // Half of what they are divided by.
 const HALF_SUM_SCALE: i64 = 1 << (SUM_SHIFT - 1);
 
-fn out_of_range(sample: i32) -> bool
+// The sample is out of range. It is taken at the width of a number that was read from a text.
+pub fn out_of_range(sample: i64) -> bool
     ensures { λ r. ⌜ r ≡ outOfRange sample ⌝ }
 {
     sample < -LARGEST_SAMPLE || LARGEST_SAMPLE < sample
@@ -45,7 +46,7 @@ fn any_out_of_range(window: &[i32]) -> bool
 {
     let mut j = 0;
     while j < window.len() {
-        if out_of_range(window[j]) {
+        if out_of_range(window[j] as i64) {
             return true;
         }
         j += 1;

@@ -6,6 +6,7 @@ use crate::comparison::is_over;
 use crate::comparison::is_within;
 use crate::limit::limit_in_units;
 use crate::limit::peak_limit_in_units;
+use groups::ORDER_COUNT;
 use observation::Observation;
 use observation::is_sound;
 use refusals::NO_REFUSAL;
@@ -22,7 +23,7 @@ ghost use Rattle.verdict.specs.Call.{verdictOf, verdictRefusal, verdictA
 // The first order that is judged.
 const FIRST_JUDGED: u32 = 2;
 // The last one.
-const LAST_JUDGED: u32 = 40;
+const LAST_JUDGED: u32 = ORDER_COUNT as u32;
 // The largest number of units per ampere.
 const LARGEST_SCALE: u32 = 1 << 28;
 

@@ -62,7 +62,7 @@ fn limit_of(order: u32) -> Fraction
 }
 
 // The limit of an order in units.
-pub fn limit_in_units(order: u32, units_per_ampere: u32) -> Fraction
+pub(crate) fn limit_in_units(order: u32, units_per_ampere: u32) -> Fraction
     requires { ⌜ (0 < order) × (order ≤ orderCount) × («units_per_ampere» ≤ largestScale) ⌝ }
     ensures { λ r. ⌜ Parts r (limitInUnits order «units_per_ampere») ⌝ }
 {
@@ -74,7 +74,7 @@ pub fn limit_in_units(order: u32, units_per_ampere: u32) -> Fraction
 }
 
 // 150 % of the limit, as three halves.
-pub fn peak_limit_in_units(order: u32, units_per_ampere: u32) -> Fraction
+pub(crate) fn peak_limit_in_units(order: u32, units_per_ampere: u32) -> Fraction
     requires { ⌜ (0 < order) × (order ≤ orderCount) × («units_per_ampere» ≤ largestScale) ⌝ }
     ensures { λ r. ⌜ Parts r (peakLimitInUnits order «units_per_ampere») ⌝ }
 {

@@ -8,7 +8,7 @@ use Rattle.algebra.specs.Fraction.{whole, scale, divide, _+ᶠ_}
 use Rattle.algebra.specs.Largest.{largest}
 use Rattle.algebra.specs.Lists.{tabulate, anyOf}
 use Rattle.algebra.specs.Rounding.{nearest}
-use Rattle.algebra.specs.Weighted.{Everywhere}
+use Rattle.algebra.specs.Weighted.{sumOver, Everywhere}
 use Rattle.refusals.specs.Numbers.{noRefusal}
 use Rattle.refusals.specs.Answers.{answer}
 use Rattle.integers.specs.Root.{rootOf}
@@ -61,7 +61,7 @@ pulse-group kind system value known alike order known-order =
     )
 
 pub worked-numbers : Everywhere Holds cases
-unfolding cases Holds tableEntry nearest quarterSine denominator added takenAway term factorial isSystem rootOf largest weightsOf wholeLines weightedSum tabulate anyOf rowOf recordOf recordAfter emptyRecord freshRefusal freshAnswer bookAt nextBook withRow rowChecks addRowRefusal addRowAnswer noneAbove allZero isSound smoothedNext bookStep smoothedValue ownFigures figureIn limitOf overOrder limitInUnits peakLimitInUnits isWithin isOver averageOf peakOf combined verdictOf verdictRefusal verdictAnswer whole scale divide _+ᶠ_ bytesOf isDigit areDigits isWhole placeValue wholeNumber negativeNumber signedNumber afterBlanks columnNumber columnReadOf
+unfolding cases Holds tableEntry nearest quarterSine denominator added takenAway term factorial isSystem rootOf largest weightsOf wholeLines weightedSum sumOver tabulate anyOf rowOf recordOf recordAfter emptyRecord freshRefusal freshAnswer bookAt nextBook withRow rowChecks addRowRefusal addRowAnswer noneAbove allZero isSound smoothedNext bookStep smoothedValue ownFigures figureIn limitOf overOrder limitInUnits peakLimitInUnits isWithin isOver averageOf peakOf combined verdictOf verdictRefusal verdictAnswer whole scale divide _+ᶠ_ bytesOf isDigit areDigits isWhole placeValue wholeNumber negativeNumber signedNumber afterBlanks columnNumber columnReadOf
 worked-numbers = (
   refl,
   (

@@ -6,10 +6,13 @@ use native.Mathlib.Omega.{arith}
 use lib.IntN.{pos}
 use lib.ListN.{length, getD, drop}
 use mir.Syntax.{w32}
+use mir.Val.{SFits}
 use mir.ValLaws.{toZ-ofZ}
+use mir.Facts.{sfits-widen}
 use Rattle.algebra.specs.Lists.{anyOf}
 use Rattle.algebra.proofs.Lists.{anyOf-drop, anyOf-here, anyOf-end}
 use Rattle.spectrum.specs.Spectrum.{outOfRange}
+use Rattle.spectrum.proofs.Signed.{widened}
 use Rattle.spectrum.proofs.any_out_of_range.Statement.{statement}
 use Rattle.spectrum.proofs.any_out_of_range.Tie as tie
 
@@ -29,14 +32,19 @@ mul-out-of-range c = omega arith
 shared-slice-copy-out-out-of-range : tie.Need-shared-slice-copy-out-out-of-range Inv-loop μ-loop
 shared-slice-copy-out-out-of-range c = omega arith
 
+cast-out-of-range : tie.Need-cast-out-of-range Inv-loop μ-loop
+cast-out-of-range c =
+    let sample = getD (c .before .before .before .args .window .now) (c .before .before .loop .j) (pos 0) in
+    let fits : SFits w32 sample = record { sfits = c .out-of-range-arg .given } in
+    rw (toZ-ofZ w32 sample fits) (sfits-widen tt fits)
+
 out-of-range-requires : tie.Need-out-of-range-requires Inv-loop μ-loop
 out-of-range-requires c κs = tt
 
 -- what the call answers, of the sample that it was handed as bits
 tested : (c : tie.After-out-of-range Inv-loop μ-loop) → outOfRange (getD (c .before .before .before .before .args .window .now) (c .before .before .before .loop .j) (pos 0)) ≡ c .out-of-range .result
 tested c =
-    sym
-    (c .out-of-range .ensures ∙ ap outOfRange (toZ-ofZ w32 _ (record { sfits = c .before .out-of-range-arg .given })))
+    sym (c .out-of-range .ensures ∙ ap outOfRange (widened _ (record { sfits = c .before .out-of-range-arg .given })))
 
 returns : tie.Need-returns Inv-loop μ-loop
 returns c =
@@ -76,6 +84,7 @@ any-out-of-range-spec =
     loop-holds
     mul-out-of-range
     shared-slice-copy-out-out-of-range
+    cast-out-of-range
     out-of-range-requires
     returns
     add-j

@@ -8,7 +8,7 @@ use native.Mathlib.Omega.{arith}
 use borrow.Author.Tests.{ltb-true, ltb-false, lt-ltb, le-ltb}
 use lib.IntN.{ℤ, pos, negsuc}
 use lib.Signed.{ltZ}
-use mir.Syntax.{w32}
+use mir.Syntax.{w64}
 use mir.ValLaws.{toZ-ofZ}
 use Rattle.spectrum.specs.Spectrum.{largestSample, outOfRange}
 use Rattle.spectrum.proofs.out_of_range.Statement.{statement}
@@ -29,12 +29,12 @@ sub-if1 c = search needs
 
 returns : tie.Need-returns
 returns c =
-    let e = toZ-ofZ w32 (c .before .args .sample) (c .before .fits .sample) in
+    let e = toZ-ofZ w64 (c .before .args .sample) (c .before .fits .sample) in
     rw e (below-the-range (c .before .args .sample) (rw e at (c .if1 .taken)))
 
 returns-2 : tie.Need-returns-2
 returns-2 c =
-    let e = toZ-ofZ w32 (c .before .args .sample) (c .before .fits .sample) in
+    let e = toZ-ofZ w64 (c .before .args .sample) (c .before .fits .sample) in
     rw e (not-below-the-range (c .before .args .sample) (rw e at (c .if1 .left)))
 
 pub out-of-range-spec : {M : Type 1} → statement M

@@ -3,18 +3,19 @@ use mathlib.Core.Path.{_≡_}
 use Prim.Native.Nat.{_+_, _-_, _*_, _≤_}
 use native.Mathlib.Numerals.{add-one}
 use native.Mathlib.Omega.{arith}
+use Rattle.groups.specs.Group.{orderCount}
 use Rattle.columns.specs.Text.{Put}
-use Rattle.columns.specs.Listing.{orders, lineLength, ordersText}
+use Rattle.columns.specs.Listing.{lineLength, ordersText}
 use Rattle.columns.proofs.Puts.{put-none, put-then, put-length}
 use Rattle.columns.proofs.listing.put_orders.Statement.{statement}
 use Rattle.columns.proofs.listing.put_orders.Tie as tie
 
 abbrev Inv-loop : tie.InvT-loop
 Inv-loop buffer₀ start group subgroup smoothed at₀ done₀ buffer at done =
-    (done ≤ orders) × (at ≤ start + lineLength * done) × Put buffer₀ start (ordersText done group subgroup smoothed) at buffer
+    (done ≤ orderCount) × (at ≤ start + lineLength * done) × Put buffer₀ start (ordersText done group subgroup smoothed) at buffer
 
 abbrev μ-loop : tie.MeasureT-loop
-μ-loop buffer₀ start group subgroup smoothed at₀ done₀ buffer at done = orders - done
+μ-loop buffer₀ start group subgroup smoothed at₀ done₀ buffer at done = orderCount - done
 
 loop-holds : tie.Need-loop-holds Inv-loop μ-loop
 unfolding ordersText
@@ -65,7 +66,7 @@ same-length c = put-length (c .before .loop .inv .2)
 returns : tie.Need-returns Inv-loop μ-loop
 returns c =
     let l = c .before .loop in
-    let all : l .done ≡ orders = omega arith in
+    let all : l .done ≡ orderCount = omega arith in
     (rw all at (l .inv .2), omega arith)
 
 pub put-orders-spec : {M : Type 1} → statement M

@@ -5,6 +5,7 @@ use Prim.Native.Nat.{_+_, _-_, _*_, _^_, _≤_, _<_}
 use native.Mathlib.Omega.{arith}
 use borrow.Author.Needs.{needs}
 use Rattle.algebra.specs.Lists.{tabulate}
+use Rattle.algebra.specs.Weighted.{sumOver}
 use Rattle.groups.specs.Group.{lineAt}
 use Rattle.groups.specs.Weights.{wholeLines, weightedSum}
 use Rattle.groups.proofs.Weights.{weightedSum-wholeLines-suc, weightedSum-wholeLines-le}
@@ -19,7 +20,7 @@ abbrev μ-loop : tie.MeasureT-loop
 μ-loop lines first count sum₀ i₀ sum i = count - i
 
 loop-holds : tie.Need-loop-holds Inv-loop μ-loop
-unfolding weightedSum wholeLines tabulate
+unfolding weightedSum sumOver wholeLines tabulate
 loop-holds c = (omega arith, refl)
 
 add-sum : tie.Need-add-sum Inv-loop μ-loop

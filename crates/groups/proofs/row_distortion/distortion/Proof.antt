@@ -8,8 +8,7 @@ use lib.ListN.{length, getD, drop, length-drop}
 use lib.Seq.{take-all}
 use mir.Syntax.{w32}
 use mir.Val.{Fits}
-use Rattle.integers.specs.Wide.{limbsOf}
-use Rattle.groups.specs.Limbs.{limbCount}
+use Rattle.integers.specs.Wide.{wideLimbs, limbsOf}
 use Rattle.groups.specs.Group.{orderCount}
 use Rattle.groups.specs.Distortion.{sumOfSquares, distortionOf, distortionAnswer}
 use Rattle.groups.proofs.RowDistortion.{distortion-quotient}
@@ -55,8 +54,8 @@ returns-2 c =
     let count : length values ≡ orderCount = search needs in
     let small : (i : ℕ) → Fits w32 (getD values i 0) = λ i. search needs in
     let present : getD values 0 0 ≡ 0 → ⊥ = c .before .before .before .before .before .if1 .left in
-    let sum : c .before .before .sum-of-squares .result ≡ limbsOf limbCount (sumOfSquares (drop 1 values)) =
-    c .before .before .sum-of-squares .ensures ∙ ap (λ (l : List ℕ). limbsOf limbCount (sumOfSquares l)) (take-all 39 (drop 1 values) (omega (arith, length-drop 1 values))) in
+    let sum : c .before .before .sum-of-squares .result ≡ limbsOf wideLimbs (sumOfSquares (drop 1 values)) =
+    c .before .before .sum-of-squares .ensures ∙ ap (λ (l : List ℕ). limbsOf wideLimbs (sumOfSquares l)) (take-all 39 (drop 1 values) (omega (arith, length-drop 1 values))) in
     let quotient : c .wide-root .result / getD values 0 0 ≡ distortionOf values =
     rw (c .wide-root .ensures, c .before .scaled .ensures, sum)
     (distortion-quotient values count (λ i. small i .fits) (omega arith)) in

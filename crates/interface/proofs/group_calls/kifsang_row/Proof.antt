@@ -1,12 +1,10 @@
--- `interface::group_calls::kifsang_row` meets its contract: the own checks, the refusal that every order shares, or the filled row. Assumes nothing.
-use mathlib.Core.Path.{_≡_, refl, sym, ap, _∙_}
+-- `interface::group_calls::kifsang_row` meets its contract: the own checks, or the library's values as they are received. Assumes nothing.
+use mathlib.Core.Path.{_≡_, refl, sym, _∙_}
 use mathlib.Core.Bool.{true, false}
 use borrow.Author.Needs.{needs}
 use borrow.Author.Tests.{eq-eqb, ne-eqb, not-true, not-false}
-use Rattle.refusals.specs.Numbers.{noRefusal}
-use Rattle.refusals.specs.declared.Answer.{Answer}
-use Rattle.groups.specs.Group.{orderCount, groupRefusal, groupAnswer}
-use Rattle.interface.specs.Kinds.{isKind}
+use Rattle.groups.specs.Group.{orderCount, groupValuesAnswer}
+use Rattle.interface.specs.Kinds.{isKind, kindWith}
 use Rattle.interface.specs.GroupCalls.{rowCallRefusal, rowCallValues}
 use Rattle.interface.proofs.group_calls.kifsang_row.Statement.{statement}
 use Rattle.interface.proofs.group_calls.kifsang_row.Tie as tie
@@ -32,46 +30,27 @@ returns-2 c = rw (known (c .before), ne-eqb _ orderCount (c .if2 .taken)) (refl,
 kind-with-requires : tie.Need-kind-with-requires
 kind-with-requires c κs = search needs
 
-group-value-requires : tie.Need-group-value-requires
-group-value-requires c κs = search needs
+group-values-requires : tie.Need-group-values-requires
+group-values-requires c κs = search needs
 
--- the refusal of order 1
-first-refusal : (c : tie.After-group-value) → c .group-value .result .refusal ≡ groupRefusal (c .before .before .before .before .before .before .before .args .system) 1 (c .before .before .before .before .before .before .before .args .lines .now)
-unfolding groupAnswer
-first-refusal c = ap (λ (answer : Answer). answer .refusal) (c .group-value .ensures)
-
-returns-3 : tie.Need-returns-3
-unfolding rowCallRefusal rowCallValues
-returns-3 c =
-    let at-length = c .before .before .before in
-    rw (
-      known (at-length .before),
-      eq-eqb _ orderCount (at-length .if2 .left),
-      ← first-refusal (c .before),
-      ne-eqb _ noRefusal (c .if3 .taken),
-    )
-    (refl, refl)
-
-fill-row-requires : tie.Need-fill-row-requires
-fill-row-requires c κs =
-    let at-first = c .before .before in
-    (sym (first-refusal at-first) ∙ c .before .if3 .left, at-first .before .before .if2 .left)
+hand-over-values-requires : tie.Need-hand-over-values-requires
+hand-over-values-requires c κs = search needs
 
 same-length : tie.Need-same-length
 same-length c = search needs
 
-returns-4 : tie.Need-returns-4
-unfolding rowCallRefusal rowCallValues
-returns-4 c =
-    let at-fill = c .before .before in
-    let at-first = at-fill .before .before .before in
-    let at-length = at-first .before .before in
-    rw (
-      known (at-length .before),
-      eq-eqb _ orderCount (at-length .if2 .left),
-      sym (first-refusal at-first) ∙ at-fill .before .before .if3 .left,
-    )
-    (refl, at-fill .fill-row .ensures)
+returns-3 : tie.Need-returns-3
+unfolding rowCallRefusal rowCallValues groupValuesAnswer
+returns-3 c =
+    let at-hand = c .before .before in
+    let at-call = at-hand .before .before in
+    let at-kind = at-call .before in
+    let at-length = at-kind .before in
+    let a = at-length .before .before .before .before .before .args in
+    let answered : at-call .group-values .result ≡ groupValuesAnswer (kindWith (a .kind)) (a .system) (a .lines .now) =
+    rw (← at-kind .kind-with .ensures) (at-call .group-values .ensures) in
+    rw (known (at-length .before), eq-eqb _ orderCount (at-length .if2 .left))
+    (rw answered at (at-hand .hand-over-values .ensures))
 
 pub kifsang-row-spec : {M : Type 1} → statement M
 kifsang-row-spec =
@@ -81,8 +60,7 @@ kifsang-row-spec =
     returns
     returns-2
     kind-with-requires
-    group-value-requires
-    returns-3
-    fill-row-requires
+    group-values-requires
+    hand-over-values-requires
     same-length
-    returns-4)
+    returns-3)

@@ -7,8 +7,8 @@ use borrow.Author.Needs.{needs}
 use lib.ListN.{getD, replicate}
 use Rattle.algebra.specs.Lists.{tabulate}
 use Rattle.groups.specs.Group.{orderCount}
-use Rattle.observation.proofs.CallList.{tabulate-part}
-use Rattle.observation.proofs.Filling.{Filled, filled-more, filled-whole}
+use Rattle.algebra.proofs.Lists.{tabulate-part}
+use Rattle.algebra.proofs.Filling.{Filled, filled-more, filled-whole}
 use Rattle.interface.proofs.record_words.values_at.Statement.{statement}
 use Rattle.interface.proofs.record_words.values_at.Tie as tie
 

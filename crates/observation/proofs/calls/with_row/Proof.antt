@@ -13,7 +13,7 @@ use Rattle.observation.specs.Book.{Book, bookStep}
 use Rattle.observation.specs.Smoothing.{reported}
 use Rattle.observation.specs.Calls.{bookAt, nextBook, withRow}
 use Rattle.observation.specs.OrderBook.{reportedBook}
-use Rattle.observation.proofs.Filling.{Filled, filled-next, filled-more, filled-whole}
+use Rattle.algebra.proofs.Filling.{Filled, filled-next, filled-more, filled-whole}
 use Rattle.observation.proofs.SoundRecord.{sound-parts, accepted-not-full, not-refused}
 use Rattle.observation.proofs.calls.with_row.Statement.{statement}
 use Rattle.observation.proofs.calls.with_row.Tie as tie

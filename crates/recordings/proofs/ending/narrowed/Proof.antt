@@ -6,18 +6,19 @@ use native.Mathlib.Omega.{arith}
 use borrow.Author.Needs.{needs}
 use lib.ListN.{length, getD, replicate}
 use Rattle.algebra.specs.Lists.{tabulate}
+use Rattle.groups.specs.Group.{orderCount}
 use Rattle.observation.specs.Soundness.{largestValue}
-use Rattle.observation.proofs.Filling.{Filled, filled-more, filled-whole}
+use Rattle.algebra.proofs.Filling.{Filled, filled-more, filled-whole}
 use Rattle.observation.proofs.NoneAbove.{getD-le-of-none-above}
-use Rattle.recordings.proofs.Output.{tabulate-whole}
+use Rattle.algebra.proofs.Lists.{tabulate-whole}
 use Rattle.recordings.proofs.ending.narrowed.Statement.{statement}
 use Rattle.recordings.proofs.ending.narrowed.Tie as tie
 
 abbrev Inv-loop : tie.InvT-loop
-Inv-loop values narrow₀ i₀ narrow i = (i ≤ 40) × Filled i (λ j. getD values j 0) narrow₀ narrow
+Inv-loop values narrow₀ i₀ narrow i = (i ≤ orderCount) × Filled i (λ j. getD values j 0) narrow₀ narrow
 
 abbrev μ-loop : tie.MeasureT-loop
-μ-loop values narrow₀ i₀ narrow i = 40 - i
+μ-loop values narrow₀ i₀ narrow i = orderCount - i
 
 loop-holds : tie.Need-loop-holds Inv-loop μ-loop
 unfolding tabulate
@@ -47,16 +48,16 @@ loop-less c = search needs
 
 loop-again : tie.Need-loop-again Inv-loop μ-loop
 loop-again c =
-    let inside : c .before .loop .i < 40 = omega arith in
-    (omega arith, filled-more _ _ (replicate 40 0) _ (c .before .loop .inv .1) _ inside refl)
+    let inside : c .before .loop .i < orderCount = omega arith in
+    (omega arith, filled-more _ _ (replicate orderCount 0) _ (c .before .loop .inv .1) _ inside refl)
 
 returns : tie.Need-returns Inv-loop μ-loop
 returns c =
     let values = c .before .before .args .t1 in
-    let end : c .before .loop .i ≡ 40 = omega arith in
-    let long : length values ≡ 40 = search needs in
-    filled-whole 40 (λ j. getD values j 0) (replicate 40 0) _ (rw end at (c .before .loop .inv .1)) refl
-    ∙ tabulate-whole values 40 long
+    let end : c .before .loop .i ≡ orderCount = omega arith in
+    let long : length values ≡ orderCount = search needs in
+    filled-whole orderCount (λ j. getD values j 0) (replicate orderCount 0) _ (rw end at (c .before .loop .inv .1)) refl
+    ∙ tabulate-whole values orderCount long
 
 pub narrowed-spec : {M : Type 1} → statement M
 narrowed-spec =

@@ -1,0 +1,76 @@
+-- `groups::group::values_of` meets its contract. The loop's invariant: the values are filled up to `i`. The measure is the count of orders that are left. Assumes nothing.
+use mathlib.Core.Path.{_≡_, refl, sym, _∙_}
+use Prim.Native.Nat.{_+_, _-_, _≤_, _<_}
+use native.Mathlib.Omega.{arith}
+use borrow.Author.Needs.{needs}
+use lib.ListN.{replicate}
+use Rattle.algebra.specs.Lists.{tabulate}
+use Rattle.algebra.proofs.Filling.{Filled, filled-more, filled-whole}
+use Rattle.groups.specs.Group.{orderCount, groupAnswer, groupValues}
+use Rattle.groups.proofs.GroupSum.{refusal-shared, accepted-value}
+use Rattle.groups.proofs.group.values_of.Statement.{statement}
+use Rattle.groups.proofs.group.values_of.Tie as tie
+
+abbrev Inv-loop : tie.InvT-loop
+Inv-loop kind system lines values₀ i₀ values i =
+    (i ≤ orderCount) × Filled i (λ k. groupAnswer kind system (k + 1) lines .value) values₀ values
+
+abbrev μ-loop : tie.MeasureT-loop
+μ-loop kind system lines values₀ i₀ values i = orderCount - i
+
+loop-holds : tie.Need-loop-holds Inv-loop μ-loop
+unfolding tabulate
+loop-holds c = (omega arith, refl)
+
+cast-value-of : tie.Need-cast-value-of Inv-loop μ-loop
+cast-value-of c = search needs
+
+add-value-of : tie.Need-add-value-of Inv-loop μ-loop
+add-value-of c = search needs
+
+-- an order that is reached is not refused
+value-of-requires : tie.Need-value-of-requires Inv-loop μ-loop
+value-of-requires c κs = refusal-shared _ _ _ (omega arith) ∙ c .before .before .before .pre
+
+mul-values : tie.Need-mul-values Inv-loop μ-loop
+mul-values c = search needs
+
+array-write-values : tie.Need-array-write-values Inv-loop μ-loop
+array-write-values c = search needs
+
+add-i : tie.Need-add-i Inv-loop μ-loop
+add-i c = search needs
+
+loop-less : tie.Need-loop-less Inv-loop μ-loop
+loop-less c = search needs
+
+loop-again : tie.Need-loop-again Inv-loop μ-loop
+loop-again c =
+    let at = c .before .before in
+    let inside : at .loop .i < orderCount = omega arith in
+    let refusal = refusal-shared _ _ _ inside ∙ at .before .before .pre in
+    let value = c .value-of .ensures ∙ sym (accepted-value _ _ _ _ refusal) in
+    (omega arith, filled-more _ _ (replicate orderCount 0) _ (at .loop .inv .1) _ inside value)
+
+returns : tie.Need-returns Inv-loop μ-loop
+unfolding groupValues
+returns c =
+    let end : c .before .loop .i ≡ orderCount = omega arith in
+    filled-whole orderCount _ (replicate orderCount 0) _ (rw end at (c .before .loop .inv .1)) refl
+
+pub values-of-spec : {M : Type 1} → statement M
+values-of-spec =
+    tie.close
+    (tie.spec
+    Inv-loop
+    μ-loop
+    loop-holds
+    cast-value-of
+    add-value-of
+    value-of-requires
+    mul-values
+    array-write-values
+    add-i
+    loop-less
+    loop-again
+    returns)
