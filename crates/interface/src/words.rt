@@ -50,10 +50,9 @@ pub(crate) fn hand_over_values(answer: OrderValues, values: &mut [u32]) -> u32
     ensures { λ _. ⌜ now (values .exit) ≡ unlessRefused (answer .refusal) (answer .values) (now (values .entry)) ⌝ }
 {
     let refusal = answer.refusal;
-    if refusal != NO_REFUSAL {
-        return refusal;
-    }
     let row = answer.values;
-    put_row(&row, values);
-    NO_REFUSAL
+    if refusal == NO_REFUSAL {
+        put_row(&row, values);
+    }
+    refusal
 }
