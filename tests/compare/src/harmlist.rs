@@ -5,11 +5,16 @@ use reference::harmlist::harmlist;
 use reference::inputs::{all_inputs, input_bytes};
 use reference::random::Random;
 use reference::signals;
+use std::fs::File;
 use std::io::Write;
+use std::os::unix::process::ExitStatusExt;
 use std::process::{Command, Stdio};
 
-/// What the built program writes for an input.
-fn written(program: &str, input: &[u8]) -> Vec<u8> {
+/// The largest piece in which an input is handed over.
+const WHOLE: usize = usize::MAX;
+
+/// What the built program writes for an input that comes in pieces of so many bytes.
+fn written(program: &str, input: &[u8], piece: usize) -> Vec<u8> {
     let mut child = Command::new(program)
         .stdin(Stdio::piped())
         .stdout(Stdio::piped())
@@ -18,41 +23,97 @@ fn written(program: &str, input: &[u8]) -> Vec<u8> {
     let mut stdin = child.stdin.take().expect("its standard input");
     let bytes = input.to_vec();
     // The program stops reading at a refusal, so that a write may find the pipe closed.
-    let writer = std::thread::spawn(move || drop(stdin.write_all(&bytes)));
+    let writer = std::thread::spawn(move || {
+        for part in bytes.chunks(piece) {
+            if stdin.write_all(part).is_err() {
+                return;
+            }
+        }
+    });
     let output = child.wait_with_output().expect("harmlist ends");
     writer.join().expect("the writer ends");
     assert!(output.status.success(), "harmlist ends in order");
     output.stdout
 }
 
-fn compare_input(tally: &mut Tally, program: &str, name: &str, input: &[u8]) {
+fn compare_pieces(tally: &mut Tally, program: &str, name: &str, input: &[u8], piece: usize) {
     let expected = harmlist(input.iter().copied());
-    let core = written(program, input);
+    let core = written(program, input, piece);
     let text = |bytes: &[u8]| String::from_utf8_lossy(bytes).into_owned();
     tally.same(name, text(&core), text(&expected));
 }
 
-/// A line that is wrong in one way, or right.
-fn line(random: &mut Random) -> Vec<u8> {
-    let lines: [&[u8]; 16] = [
-        b"     500\n",
-        b"  131071\n",
-        b" -131071\n",
-        b"  131072\n",
-        b" -131072\n",
-        b"99999999\n",
-        b"      +7\n",
-        b"      7\n",
-        b"        7\n",
-        b"      07\n",
-        b"      -0\n",
-        b"     \t7\n",
-        b"       7\r\n",
-        b"     \xc3\xa97\n",
-        b"      \x007\n",
-        b"       7",
+fn compare_input(tally: &mut Tally, program: &str, name: &str, input: &[u8]) {
+    compare_pieces(tally, program, name, input, WHOLE);
+}
+
+/// Lines that are right, out of range, or no column and a newline.
+const LINES: [&[u8]; 19] = [
+    b"     500\n",
+    b"      10\n",
+    b"      11\n",
+    b"  131071\n",
+    b" -131071\n",
+    b"  131072\n",
+    b" -131072\n",
+    b"99999999\n",
+    b"-9999999\n",
+    b"      +7\n",
+    b"      7\n",
+    b"        7\n",
+    b"      07\n",
+    b"      -0\n",
+    b"     \t7\n",
+    b"       7\r\n",
+    b"     \xc3\xa97\n",
+    b"      \x007\n",
+    b"       7",
+];
+
+/// Each pair of lines on neighbouring lines: the system's and the first sample's, two of one window,
+/// the last of a window and the first of the next.
+fn compare_pairs(tally: &mut Tally, program: &str) {
+    let samples = |count| b"     500\n".repeat(count);
+    for first in LINES {
+        for second in LINES {
+            for before in [0, 1, 2048] {
+                let mut input = Vec::new();
+                if before > 0 {
+                    input.extend_from_slice(b"      12\n");
+                    input.extend(samples(before - 1));
+                }
+                input.extend_from_slice(first);
+                input.extend_from_slice(second);
+                let name = format!("a pair of lines after {before}");
+                compare_input(tally, program, &name, &input);
+                input.extend(samples(2048));
+                compare_input(tally, program, &name, &input);
+            }
+        }
+    }
+}
+
+/// An output that nobody reads, or that takes nothing, ends the program in order.
+fn try_outputs(tally: &mut Tally, program: &str, input: &[u8]) {
+    const BROKEN_PIPE: i32 = 13;
+    let outputs = [
+        Stdio::piped(),
+        Stdio::from(File::create("/dev/full").expect("/dev/full")),
     ];
-    lines[random.below(lines.len() as u64) as usize].to_vec()
+    for output in outputs {
+        let mut child = Command::new(program)
+            .stdin(Stdio::piped())
+            .stdout(output)
+            .spawn()
+            .expect("harmlist starts");
+        drop(child.stdout.take());
+        let mut stdin = child.stdin.take().expect("its standard input");
+        stdin.write_all(input).expect("harmlist reads its input");
+        drop(stdin);
+        let status = child.wait().expect("harmlist ends");
+        let in_order = status.success() || status.signal() == Some(BROKEN_PIPE);
+        tally.same("an output that takes nothing", in_order, true);
+    }
 }
 
 /// A valid input of one window with some of its bytes changed.
@@ -75,20 +136,20 @@ pub fn compare(tally: &mut Tally, program: &str, seed: u64) {
     for input in all_inputs(seed) {
         compare_input(tally, program, &input.name, &input.bytes);
     }
+    for name in ["heater_passes", "supply_fails", "dimmer"] {
+        let recording = std::fs::read(format!("examples/recordings/{name}.txt"));
+        compare_input(tally, program, name, &recording.expect("the recording"));
+    }
     let mut random = Random::new(seed ^ 0x4A12);
 
-    // Pairs of faults on neighbouring lines, at the system's line and inside a window.
-    for _ in 0..400 {
-        let system = [b"      10\n", b"      12\n", b"      11\n", b"      1x\n"];
-        let mut input = system[random.below(4) as usize].to_vec();
-        for _ in 0..random.below(4) {
-            input.extend(line(&mut random));
-        }
-        compare_input(tally, program, "neighbouring faults", &input);
-    }
+    compare_pairs(tally, program);
 
-    // A small recording cut at every place, and thousands of random edits of it.
+    // A small recording: in pieces, with nobody to write to, cut at every place, edited at random.
     let valid = input_bytes(12, &signals::noise(2048, 131_071, seed).samples);
+    for piece in [1, 7, 1000] {
+        compare_pieces(tally, program, "in pieces", &valid, piece);
+    }
+    try_outputs(tally, program, &valid);
     for length in 0..=valid.len() {
         compare_input(
             tally,

@@ -5,6 +5,7 @@
 //! byte for byte. The seed is fixed, so that a run can be repeated.
 
 mod columns;
+mod examples;
 mod harmlist;
 mod records;
 mod windows;
@@ -46,6 +47,7 @@ fn main() {
             windows::compare(&mut tally, SEED);
             records::compare(&mut tally, SEED);
             columns::compare(&mut tally, SEED);
+            examples::compare(&mut tally);
         }
     }
     println!(

@@ -83,6 +83,7 @@ fn refused_lines() -> Vec<Input> {
         input("only_newline", b"\n".to_vec()),
         input("system_without_newline", b"      10".to_vec()),
         input("system_short_column", joined(&[b"10\n", &good[9..]])),
+        input("return_before_each_newline", with_returns(&good)),
         input("system_and_return", joined(&[b"      10\r\n", &good[9..]])),
         input("wrong_system_without_newline", b"      11".to_vec()),
         input("wrong_system_then_wrong_line", b"      11\nx\n".to_vec()),
@@ -98,6 +99,12 @@ fn refused_lines() -> Vec<Input> {
         input("wrong_line_then_out_of_range", joined(&[&good, b"x\n  131072\n"])),
         input("bytes_that_are_not_text", vec![0xff; 90]),
     ]
+}
+
+/// The same with a carriage return before each newline.
+fn with_returns(bytes: &[u8]) -> Vec<u8> {
+    let ends = |byte: &u8| if *byte == b'\n' { b"\r\n".to_vec() } else { vec![*byte] };
+    bytes.iter().flat_map(ends).collect()
 }
 
 /// A good input with a few bytes changed, dropped or doubled.

@@ -1,0 +1,43 @@
+//! The recordings of `examples/recordings`, judged by the core as the script beside them says.
+
+use crate::Tally;
+use kifsang::{Kind, Verdict, LINE_COUNT, ORDER_COUNT, RECORD_WORDS, WINDOW_LENGTH};
+
+/// 4,000 counts per ampere, 4,096 units in a count.
+const UNITS_PER_AMPERE: u32 = 4_000 * 4_096;
+
+/// The orders 2..40 that are over their limit, and those that are close.
+fn over_and_close(name: &str) -> (Vec<u32>, Vec<u32>) {
+    let path = format!("examples/recordings/{name}.txt");
+    let text = std::fs::read(path).expect("the recording");
+    let numbers: Vec<i64> = text
+        .chunks(9)
+        .map(|line| kifsang::read_column(&line[..8]).expect("a column"))
+        .collect();
+    let system = numbers[0] as u32;
+    let samples: Vec<i32> = numbers[1..].iter().map(|&number| number as i32).collect();
+    let mut lines = [0; LINE_COUNT];
+    let mut row = [0; ORDER_COUNT];
+    let mut record = [0; RECORD_WORDS];
+    kifsang::fresh_record(system, &mut record).expect("a fresh record");
+    for start in (0..samples.len()).step_by(WINDOW_LENGTH) {
+        kifsang::spectrum(&samples, start, &mut lines).expect("a spectrum");
+        kifsang::row(Kind::HarmonicGroup, system, &lines, &mut row).expect("a row");
+        kifsang::add_row(&mut record, system, &row).expect("one window more");
+    }
+    let judged = |verdict| {
+        (2..=ORDER_COUNT as u32)
+            .filter(|&order| kifsang::verdict(&record, order, UNITS_PER_AMPERE) == Ok(verdict))
+            .collect()
+    };
+    (judged(Verdict::Over), judged(Verdict::Close))
+}
+
+pub fn compare(tally: &mut Tally) {
+    let none = (Vec::new(), Vec::new());
+    tally.same("the heater's orders", over_and_close("heater_passes"), none);
+    let (over, close) = over_and_close("supply_fails");
+    let several_odd = over.len() > 1 && over.iter().all(|order| order % 2 == 1);
+    tally.same("the supply's odd orders are over", several_odd, true);
+    tally.same("the supply's other orders", close, Vec::new());
+}
