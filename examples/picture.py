@@ -53,7 +53,7 @@ def main():
             out.append(f'<line x1="{x:.1f}" x2="{x + step:.1f}" y1="{y:.1f}" y2="{y:.1f}" stroke="#222" stroke-width="2"/>')
         if order % 2 == 1 or order == 40:
             out.append(f'<text x="{x + step / 2:.1f}" y="{HEIGHT - BOTTOM + 16}" text-anchor="middle">{order}</text>')
-    out.append(f'<text x="{(LEFT + WIDTH) / 2:.0f}" y="{HEIGHT - 16}" text-anchor="middle">order; bars red where the group is over its limit, limits as black lines</text>')
+    out.append(f'<text x="{(LEFT + WIDTH) / 2:.0f}" y="{HEIGHT - 16}" text-anchor="middle">order; bars red where the group less its band is over the limit, limits as black lines; the band is {BAND / units_per_ampere * 1e6:.2f} µA either way</text>')
     out.append("</svg>")
     print("\n".join(out))
 
