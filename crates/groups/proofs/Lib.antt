@@ -3,3 +3,4 @@ pub mod Weights
 pub mod GroupSum
 pub mod FirstValues
 pub mod RowDistortion
+pub mod Worked

@@ -4,3 +4,4 @@ pub mod Smoothed
 pub mod SoundRecord
 pub mod RecordBooks
 pub mod CallList
+pub mod Worked
