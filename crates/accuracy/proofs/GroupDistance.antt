@@ -1,10 +1,10 @@
 -- The distance of 7 units: a group value is within 7 units of the exact group, for every window in range, every kind, order and system.
 -- It is one fact over weights: each line of a group gives two places, its cosine sum and its sine sum, each within 3/4 of the exact one, and the norm bound does the rest.
 -- Assumes nothing.
-use mathlib.Core.Path.{_≡_, refl, sym, ap, _∙_}
+use mathlib.Core.Path.{_≡_, refl}
 use mathlib.Core.Bool.{true, false}
 use mathlib.Core.List.{List, [], _∷_}
-use Prim.Native.Nat.{ℕ, _+_, _-_, _*_, _≤_, _<_}
+use Prim.Native.Nat.{ℕ, _-_, _*_, _≤_, _<_}
 use native.Mathlib.Omega.{arith}
 use lib.IntN.{ℤ}
 use borrow.Author.Tests.{eq-eqb, lt-ltb, le-leb}
@@ -21,7 +21,7 @@ use Rattle.sine.specs.ExactSine.{denominator, exactSine, exactCosine}
 use Rattle.sine.proofs.ExactSine.{denominator-pos}
 use Rattle.sine.specs.Wave.{tableSine, tableCosine}
 use Rattle.spectrum.specs.Line as Line
-use Rattle.spectrum.specs.Line.{lineCount, roundedSum, lineOf, linesOf}
+use Rattle.spectrum.specs.Line.{roundedSum, lineOf, linesOf}
 use Rattle.spectrum.specs.Exact.{exactSum}
 use Rattle.spectrum.specs.Spectrum.{outOfRange}
 use Rattle.spectrum.proofs.Distance.{cosine-sum-near, sine-sum-near}
@@ -32,7 +32,7 @@ use Rattle.groups.specs.Exact.{exactLine, exactGroup, exactGroupNumerator}
 use Rattle.groups.specs.Group.{isSystem, isOrder, orderCount, lineAt, groupValue, groupRefusal, groupAnswer}
 use Rattle.groups.proofs.GroupSum.{group-sum-lt}
 use Rattle.groups.proofs.Weights.{totalTwiceWeight, largestTotal, weights-total-le, weights-line-lt, weightedSum-eq}
-use Rattle.accuracy.specs.Distance.{InRange, GroupNear, GroupsNear, groupMargin}
+use Rattle.accuracy.specs.Distance.{InRange, GroupsNear, groupMargin}
 
 module _ (window : List ℤ) where
   -- the two places of a line

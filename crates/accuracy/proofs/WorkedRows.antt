@@ -1,6 +1,6 @@
 -- A row that is worked from samples holds values of 32 bits, and its value of an order is within the group margin of what an exact book of that order is fed.
 -- So the exact books of an order are near its reported book. Assumes the distance of 7 units, as a section's parameter.
-use mathlib.Core.Path.{_≡_, refl, ap, _∙_}
+use mathlib.Core.Path.{_≡_, ap, _∙_}
 use mathlib.Core.Bool.{true}
 use mathlib.Core.List.{List}
 use Prim.Native.Nat.{ℕ, _-_, _<_, _≤_}

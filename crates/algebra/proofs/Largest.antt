@@ -1,6 +1,6 @@
 -- The law of `largest` (specs/Largest.antt): for a test that passes at 0, stays failed once failed and fails at 2^b, it passes and its successor does not, and no other number is so.
 -- The second half says the same of the largest t with f t ≤ n, f never falling: the form of an integer root and of the group distortion.
-use mathlib.Core.Bool.{Bool, true, false, not, cond}
+use mathlib.Core.Bool.{Bool, true, false, cond}
 use mathlib.Core.Path.{_≡_, refl}
 use Prim.Native.Nat.{ℕ, zero, suc, _+_, _*_, _-_, _^_, _≤_, _<_}
 use native.Mathlib.Nat.{le-trans, le-antisymm, le-of-suc-le-suc}

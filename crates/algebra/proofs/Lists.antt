@@ -1,6 +1,6 @@
 -- Laws of `tabulate` and `anyOf`, in the form that a loop over a list's places uses: what is filled is the front of the definition's list, and the test over the rest is the test over the whole.
 -- Assumes nothing.
-use mathlib.Core.Path.{_≡_, refl, sym, _∙_, ap}
+use mathlib.Core.Path.{_≡_, refl, sym, _∙_}
 use mathlib.Core.Logic.{⊎-elim}
 use mathlib.Core.Bool.{Bool, true, false, _||_}
 use mathlib.Core.List.{List, [], _∷_, _++_, append-assoc, append-nil}
@@ -10,7 +10,7 @@ use native.Mathlib.Nat.{eq-or-lt-of-le, le-of-suc-le-suc, not-suc-le-zero}
 use native.Mathlib.Decide.{decLt}
 use native.Mathlib.Omega.{arith}
 use lib.ListN.{length, getD, take, drop, set, replicate, length-append, length-drop, length-replicate, getD-replicate, List·getD-append, List·getD-eq-default}
-use lib.Seq.{drop-cons, drop-length, getD-at, set-at, append-snoc, length-take-le, getD-take, getD-drop, ext-getD}
+use lib.Seq.{drop-cons, drop-length, getD-at, set-at, length-take-le, getD-take, getD-drop, ext-getD}
 use Rattle.algebra.specs.Lists.{tabulate, anyOf}
 
 module _ {ℓ} {A : Type ℓ} where

@@ -5,7 +5,7 @@ use mathlib.Core.List.{[], _∷_}
 use Prim.Native.Nat.{ℕ, zero, suc, _+_, _*_, _≤_, _<_}
 use native.Mathlib.Nat.{le-refl, le-step, le-trans, add-le-add}
 use native.Mathlib.Omega.{arith}
-use lib.IntN.{ℤ, pos, negℤ, natAbs, _+ℤ_, _-ℤ_, _*ℤ_, *ℤ-zero, negℤ-+ℤ}
+use lib.IntN.{ℤ, negℤ, natAbs, _+ℤ_, _-ℤ_, _*ℤ_, *ℤ-zero, negℤ-+ℤ}
 use Rattle.algebra.specs.Sums.{sumTo}
 use Rattle.algebra.proofs.Integer.{*ℤ-+ℤ, natAbs-+ℤ-le}
 use Rattle.algebra.proofs.Ring.{variable, _⊕_, ring}

@@ -8,7 +8,6 @@ use lib.ListN.{replicate}
 use Rattle.algebra.specs.Lists.{anyOf}
 use Rattle.refusals.specs.Numbers.{noRefusal, unknownSystem, unsoundRecord, otherSystem, recordFull}
 use Rattle.groups.specs.Group.{isSystem}
-use Rattle.observation.specs.declared.Row.{Row}
 use Rattle.observation.specs.declared.Observation.{Observation}
 use Rattle.observation.specs.Soundness.{mostWindows, largestValue, noneAbove, allZero, isSound}
 use Rattle.observation.specs.Calls.{freshRefusal, rowChecks, addRowRefusal}

@@ -1,13 +1,11 @@
 -- What a block gives a reading, a law for each way: the reading is refused, the block is empty, a line has a fault, the block is short, the block is a whole window. Assumes nothing.
-use mathlib.Core.Bool.{true, false}
 use mathlib.Core.List.{List}
-use mathlib.Core.Path.{_≡_, refl, sym, _∙_}
+use mathlib.Core.Path.{_≡_}
 use Prim.Native.Nat.{ℕ, _+_, _*_, _/_, _≤_, _<_}
 use native.Mathlib.Decide.{decLe}
 use native.Mathlib.Omega.{arith}
 use borrow.Author.Tests.{eq-eqb, ne-eqb, lt-ltb, le-ltb}
-use lib.Dec.{eqb}
-use lib.ListN.{length, take}
+use lib.ListN.{length}
 use lib.Seq.{length-take-le, take-all}
 use Rattle.refusals.specs.Numbers.{noRefusal, shortWindow}
 use Rattle.columns.specs.Calls.{columnWidth}

@@ -1,18 +1,17 @@
 -- The reading after the first line, by the number on it. Assumes nothing.
-use mathlib.Core.Bool.{Bool, true, false, cond, not}
+use mathlib.Core.Bool.{false, cond}
 use mathlib.Core.List.{List}
 use mathlib.Core.Option.{Option, none, some}
-use mathlib.Core.Path.{_≡_, refl, sym, _∙_}
-use Prim.Native.Nat.{ℕ, _<_, _≤_}
+use mathlib.Core.Path.{_≡_, refl}
+use Prim.Native.Nat.{ℕ, _<_}
 use native.Mathlib.Decide.{decLt}
 use native.Mathlib.Omega.{arith}
 use borrow.Author.Tests.{ne-eqb, lt-ltb, le-ltb}
-use lib.Dec.{ltb}
 use lib.IntN.{ℤ, pos, negsuc}
 use Rattle.refusals.specs.Numbers.{noRefusal, notAColumn, unknownSystem}
 use Rattle.columns.specs.Calls.{readingOf}
 use Rattle.groups.specs.Group.{isSystem}
-use Rattle.observation.specs.Calls.{emptyRecord, refusedSystem, freshRefusal, freshAnswer}
+use Rattle.observation.specs.Calls.{freshRefusal, freshAnswer}
 use Rattle.recordings.specs.Lines.{lineAt, lineNumber, numberOr0, numberAt}
 use Rattle.recordings.specs.Faults.{isNone, noSystem, lineFault}
 use Rattle.recordings.specs.Output.{systemIn}

@@ -1,20 +1,18 @@
 -- An input that is read in blocks gives what harmlist writes for it.
 -- The invariant `Holds` over a text of w whole windows: the reading's refusal is the first fault of the text's lines, and a reading that goes on holds the record of the text's windows and the rows of its last.
 -- `begins`, `steps` and `ends` are its start, one window more, and what is written. Assumes nothing.
-use mathlib.Core.Bool.{Bool, true, false, cond, not, true≢false}
+use mathlib.Core.Bool.{true, false, cond, true≢false}
 use mathlib.Core.List.{List, [], _∷_, _++_, append-nil, append-assoc}
 use mathlib.Core.Logic.{⊎-elim}
 use mathlib.Core.Path.{_≡_, refl, sym, ap, _∙_}
-use Prim.Native.Nat.{ℕ, zero, suc, _+_, _-_, _*_, _/_, _%_, _^_, _<_, _≤_}
+use Prim.Native.Nat.{ℕ, _+_, _-_, _*_, _/_, _<_, _≤_}
 use native.Mathlib.Decide.{ℕ-discrete, decLe}
-use native.Mathlib.Nat.{le-refl}
 use native.Mathlib.Omega.{arith}
 use borrow.Author.Tests.{eq-eqb, ne-eqb, le-leb, lt-leb, not-false}
 use lib.Dec.{eqb, leb}
 use lib.IntN.{ℤ, pos, negsuc, natAbs}
 use lib.ListN.{length, length-append}
 use Rattle.algebra.specs.Lists.{tabulate}
-use Rattle.algebra.proofs.Lists.{length-tabulate, getD-tabulate}
 use Rattle.refusals.specs.Numbers.{noRefusal, notAColumn, unknownSystem, shortWindow, noWindow, recordFull, wrongBufferLength}
 use Rattle.columns.specs.Listing.{listingText, refusalLine}
 use Rattle.columns.specs.Calls.{columnWidth}
@@ -25,9 +23,8 @@ use Rattle.groups.specs.Group.{isSystem}
 use Rattle.groups.proofs.GroupSum.{group-values-le}
 use Rattle.observation.specs.declared.Row.{Row}
 use Rattle.observation.specs.declared.Observation.{Observation}
-use Rattle.observation.specs.declared.Recorded.{Recorded}
-use Rattle.observation.specs.Soundness.{isSound, mostWindows, largestValue}
-use Rattle.observation.specs.Calls.{emptyRecord, refusedSystem, freshAnswer, rowChecks, addRowRefusal, addRowAnswer, withRow}
+use Rattle.observation.specs.Soundness.{isSound, mostWindows}
+use Rattle.observation.specs.Calls.{emptyRecord, rowChecks, addRowRefusal, addRowAnswer, withRow}
 use Rattle.observation.specs.CallList.{recordAfter}
 use Rattle.observation.specs.BookCalls.{ValuesFit}
 use Rattle.observation.proofs.SoundRecord.{sound-parts, empty-record-sound, fresh-of-known, with-row-sound}

@@ -1,11 +1,10 @@
 -- What is written at the end of a reading, and what harmlist writes for a text, a law for each way. Assumes nothing.
-use mathlib.Core.Bool.{Bool, true, false, not}
+use mathlib.Core.Bool.{true, false}
 use mathlib.Core.List.{List}
-use mathlib.Core.Path.{_≡_, refl, sym, ap, _∙_}
-use Prim.Native.Nat.{ℕ, _+_, _-_, _*_, _/_, _%_, _<_, _≤_}
+use mathlib.Core.Path.{_≡_, refl}
+use Prim.Native.Nat.{ℕ, _+_, _-_, _*_, _%_, _<_, _≤_}
 use native.Mathlib.Omega.{arith}
-use borrow.Author.Tests.{eq-eqb, ne-eqb, lt-ltb, le-ltb}
-use lib.Dec.{eqb, ltb}
+use borrow.Author.Tests.{ne-eqb, lt-ltb, le-ltb}
 use Rattle.refusals.specs.Numbers.{noRefusal, shortWindow, unsoundRecord, noWindow, wrongBufferLength}
 use Rattle.columns.specs.Listing.{listingText, refusalLine}
 use Rattle.spectrum.specs.Line.{windowLength}

@@ -2,7 +2,7 @@
 use mathlib.Core.Bool.{true, false, cond, true≢false}
 use mathlib.Core.List.{List}
 use mathlib.Core.Option.{Option, none, some}
-use mathlib.Core.Path.{_≡_, refl, sym, _∙_, ap}
+use mathlib.Core.Path.{_≡_, refl, sym, _∙_}
 use Prim.Native.Nat.{ℕ, _≤_, _<_}
 use native.Mathlib.Omega.{arith}
 use borrow.Author.Tests.{ltb-false}
@@ -11,7 +11,6 @@ use lib.ListN.{length}
 use Rattle.algebra.specs.Lists.{tabulate, anyOf}
 use Rattle.algebra.proofs.Lists.{length-tabulate, getD-tabulate, anyOf-false}
 use Rattle.refusals.specs.Numbers.{noRefusal, notAColumn, sampleOutOfRange}
-use Rattle.columns.specs.declared.Number.{Number}
 use Rattle.columns.specs.Calls.{readingOf}
 use Rattle.spectrum.specs.Line.{windowLength}
 use Rattle.spectrum.specs.Spectrum.{largestSample, outOfRange}

@@ -1,27 +1,24 @@
 -- The lines of a text that is put together from two: those of the first part and those after it, and what is read of them. Assumes nothing.
 use mathlib.Core.Bool.{Bool, true, false, cond}
-use mathlib.Core.List.{List, [], _∷_, _++_}
-use mathlib.Core.Path.{_≡_, refl, sym, ap, _∙_}
+use mathlib.Core.List.{List, _++_}
+use mathlib.Core.Path.{_≡_, refl, ap}
 use Prim.Native.Nat.{ℕ, zero, suc, _+_, _-_, _*_, _<_, _≤_}
 use native.Mathlib.Omega.{arith}
 use borrow.Author.Tests.{ne-eqb}
 use lib.Dec.{eqb}
-use lib.IntN.{ℤ, natAbs}
-use lib.ListN.{length, take, drop, length-drop}
+use lib.IntN.{natAbs}
+use lib.ListN.{length, drop, length-drop}
 use lib.Seq.{drop-append-le, take-append-le, drop-append-add}
 use Rattle.algebra.specs.Lists.{tabulate}
 use Rattle.refusals.specs.Numbers.{noRefusal, notAColumn, sampleOutOfRange, recordFull}
 use Rattle.spectrum.specs.Line.{windowLength}
 use Rattle.spectrum.specs.Spectrum.{outOfRange}
-use Rattle.groups.specs.declared.Kind.{Kind}
-use Rattle.observation.specs.declared.Row.{Row}
-use Rattle.observation.specs.declared.Observation.{Observation}
 use Rattle.observation.specs.Soundness.{mostWindows}
 use Rattle.observation.specs.Calls.{freshAnswer}
 use Rattle.observation.specs.CallList.{recordAfter}
 use Rattle.recordings.specs.Lines.{lineBytes, lineAt, lineNumber, numberOr0, numberAt}
-use Rattle.recordings.specs.Faults.{isNone, lineFault, firstOf, faultBefore}
-use Rattle.recordings.specs.Output.{systemIn, windowIn, rowOf, rowsIn, recordIn}
+use Rattle.recordings.specs.Faults.{isNone, lineFault, faultBefore}
+use Rattle.recordings.specs.Output.{systemIn, windowIn, rowsIn, recordIn}
 use Rattle.recordings.specs.Reading.{sampleFault, samplesOf}
 use Rattle.recordings.proofs.FirstOf.{first-same}
 

@@ -8,7 +8,7 @@ use native.Mathlib.Omega.{arith}
 use borrow.Author.Tests.{leb-true, lt-ltb, le-ltb}
 use lib.IntN.{pos}
 use lib.ListN.{length, drop, length-append, length-drop}
-use Rattle.refusals.specs.Numbers.{noRefusal, wrongBufferLength, unsoundRecord, noWindow}
+use Rattle.refusals.specs.Numbers.{noRefusal, wrongBufferLength}
 use Rattle.refusals.specs.Answers.{answer}
 use Rattle.refusals.specs.declared.Answer.{Answer}
 use Rattle.columns.specs.Text.{bytesOf}

@@ -1,6 +1,6 @@
 -- What the calls answer that read an input a block at a time: `begin` takes the first line, `take_block` the lines of one window, `finish` writes.
 -- That they follow the definition of what harmlist writes is stated in specs/Blocks.antt.
-use mathlib.Core.Bool.{Bool, cond, not, _||_}
+use mathlib.Core.Bool.{cond, not, _||_}
 use mathlib.Core.List.{List, [], _∷_, _++_}
 use Prim.Native.Nat.{ℕ, _*_}
 use lib.Dec.{eqb, ltb}

@@ -1,11 +1,11 @@
 -- The limits: which orders have no figure of their own, and how large the parts of a limit are. Assumes nothing.
 use mathlib.Core.Path.{_≡_, sym}
-use mathlib.Core.Bool.{Bool, true, false, _&&_}
-use Prim.Native.Nat.{ℕ, _*_, _^_, _<_, _≤_}
+use mathlib.Core.Bool.{false}
+use Prim.Native.Nat.{ℕ, _*_, _≤_}
 use native.Mathlib.Nat.{mul-le-mul}
 use native.Mathlib.Omega.{arith}
-use lib.Dec.{T, eqb, leb, leb→le}
-use lib.ListN.{getD, replicate}
+use lib.Dec.{eqb, leb, leb→le}
+use lib.ListN.{replicate}
 use borrow.Author.Tests.{ne-eqb}
 use Rattle.algebra.specs.Fraction.{Fraction, whole, scale, divide}
 use Rattle.algebra.proofs.Computed.{pass-at}

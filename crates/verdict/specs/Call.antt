@@ -1,6 +1,6 @@
 -- What the call `verdict` answers (document 01, "Class A verdicts" and the refusal table's row "verdict").
-use mathlib.Core.Bool.{Bool, cond, not, _&&_, _||_}
-use mathlib.Core.List.{List, [], _∷_}
+use mathlib.Core.Bool.{cond, not, _&&_, _||_}
+use mathlib.Core.List.{[], _∷_}
 use Prim.Native.Nat.{ℕ, _-_, _^_, max}
 use native.Mathlib.Omega.{arith}
 use lib.Dec.{eqb, leb}
@@ -8,7 +8,7 @@ use lib.ListN.{getD}
 use Rattle.algebra.specs.Fraction.{Fraction, whole, divide}
 use Rattle.groups.specs.Group.{orderCount}
 use Rattle.refusals.specs.Numbers.{noRefusal, unsoundRecord, noWindow, orderOutOfRange, scaleOutOfRange}
-use Rattle.refusals.specs.Answers.{firstFault, unlessRefused}
+use Rattle.refusals.specs.Answers.{firstFault}
 use Rattle.observation.specs.declared.Observation.{Observation}
 use Rattle.observation.specs.Soundness.{isSound}
 use Rattle.verdict.specs.declared.Verdict.{Verdict}

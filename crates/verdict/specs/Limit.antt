@@ -1,7 +1,7 @@
 -- The limits of class A (document 01, "Class A verdicts"). The one place that knows a milliampere figure.
 use mathlib.Core.Bool.{cond}
 use mathlib.Core.List.{List, [], _∷_}
-use Prim.Native.Nat.{ℕ, _*_, _%_, max}
+use Prim.Native.Nat.{ℕ, _%_, max}
 use native.Mathlib.Omega.{arith}
 use lib.Dec.{eqb}
 use Rattle.algebra.specs.Fraction.{Fraction, whole}

@@ -2,10 +2,10 @@
 use mathlib.Core.Path.{_≡_}
 use mathlib.Core.Bool.{true}
 use mathlib.Core.List.{List, [], _∷_}
-use Prim.Native.Nat.{ℕ, _+_, _-_, _<_, _≤_}
+use Prim.Native.Nat.{ℕ, _-_, _<_}
 use Prim.Native.String.{String}
 use lib.IntN.{ℤ, pos, negsuc}
-use lib.ListN.{getD, replicate, set}
+use lib.ListN.{getD, replicate}
 use Rattle.refusals.specs.Numbers.{noRefusal, notAColumn}
 use Rattle.refusals.specs.Answers.{answer}
 use Rattle.sine.specs.Wave.{tableEntry}
@@ -22,7 +22,6 @@ use Rattle.verdict.specs.declared.Verdict.the-variants.{Within, Close, Over}
 use Rattle.verdict.specs.declared.Answered.the-variants.{Given}
 use Rattle.verdict.specs.Call.{verdictAnswer}
 use Rattle.columns.specs.Text.{bytesOf}
-use Rattle.columns.specs.declared.Number.{Number}
 use Rattle.columns.specs.Calls.{columnReadOf}
 
 -- "Pulse is sample 0 = 1000, the rest 0"

@@ -1,5 +1,5 @@
 -- `harmlist::write_output` is safe: the count of bytes that are written lies in the buffer. Assumes nothing.
-use mathlib.Core.Path.{_≡_, sym}
+use mathlib.Core.Path.{sym}
 use Prim.Native.Nat.{_≤_}
 use borrow.Author.Needs.{needs}
 use lib.ListN.{length}

@@ -1,8 +1,7 @@
 -- `groups::group::group_values` meets its contract: the refusal with zeros, or the values. Assumes nothing.
-use mathlib.Core.Path.{_≡_, sym, _∙_}
+use mathlib.Core.Path.{_∙_}
 use borrow.Author.Needs.{needs}
-use Rattle.refusals.specs.Numbers.{noRefusal}
-use Rattle.groups.specs.Group.{groupRefusal, groupValuesAnswer}
+use Rattle.groups.specs.Group.{groupValuesAnswer}
 use Rattle.groups.proofs.GroupSum.{refused-values}
 use Rattle.groups.proofs.group.group_values.Statement.{statement}
 use Rattle.groups.proofs.group.group_values.Tie as tie

@@ -1,6 +1,6 @@
 -- `interface::record_calls::kifsang_verdict` meets its contract: a wrong count of words, a record whose counts pass 32 bits, the verdict's number or the refusal. Assumes nothing.
 use mathlib.Core.Path.{_≡_, refl, sym, ap, _∙_}
-use mathlib.Core.Bool.{true, false}
+use mathlib.Core.Bool.{false}
 use borrow.Author.Needs.{needs}
 use borrow.Author.Tests.{eq-eqb, ne-eqb, not-true, not-false}
 use Rattle.verdict.specs.Call.{verdictRefusal, verdictAnswer}

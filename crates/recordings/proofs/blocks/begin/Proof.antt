@@ -1,16 +1,12 @@
 -- `recordings::blocks::begin` meets its contract, by what the first line was read as. Assumes nothing.
-use mathlib.Core.List.{List}
 use mathlib.Core.Path.{_≡_, refl, sym, ap, _∙_}
-use Prim.Native.Nat.{ℕ}
 use borrow.Author.Needs.{needs}
 use mir.Facts.{toZ-ofZ}
 use mir.Syntax.{w64}
 use Rattle.columns.specs.declared.Number.{Number}
-use Rattle.columns.specs.Calls.{readingOf}
-use Rattle.observation.specs.declared.Recorded.{Recorded}
 use Rattle.observation.specs.Calls.{freshAnswer}
 use Rattle.recordings.specs.Lines.{lineAt, lineNumber}
-use Rattle.recordings.specs.Steps.{systemWord, readingOfNone}
+use Rattle.recordings.specs.Steps.{systemWord}
 use Rattle.recordings.proofs.FirstLine.{begin-refused, begin-taken}
 use Rattle.recordings.proofs.blocks.begin.Statement.{statement}
 use Rattle.recordings.proofs.blocks.begin.Tie as tie

@@ -1,17 +1,14 @@
 -- `recordings::blocks::take_block` meets its contract, by a law for each way. Assumes nothing.
 use mathlib.Core.Path.{_≡_, refl, sym, ap, _∙_}
 use Prim.Native.Nat.{ℕ}
-use native.Mathlib.Omega.{arith}
 use borrow.Author.Needs.{needs}
 use lib.IntN.{pos}
-use lib.ListN.{length, replicate}
-use Rattle.algebra.specs.Lists.{tabulate, anyOf}
+use lib.ListN.{replicate}
 use Rattle.algebra.proofs.Lists.{filled-tabulate}
 use Rattle.refusals.specs.Numbers.{noRefusal}
 use Rattle.spectrum.specs.Line.{windowLength}
-use Rattle.spectrum.specs.Spectrum.{outOfRange}
 use Rattle.recordings.specs.Lines.{numberAt}
-use Rattle.recordings.specs.Reading.{windowBytes, faultOfLines, blockLines, samplesOf, refusedWith, windowTaken}
+use Rattle.recordings.specs.Reading.{faultOfLines, blockLines, samplesOf, refusedWith, windowTaken}
 use Rattle.recordings.proofs.Samples.{length-samples, samples-in-range}
 use Rattle.recordings.proofs.BlockLaws.{lines-of-whole, block-lines-fit, block-of-refused, block-of-none, block-of-fault, block-of-short, block-of-whole}
 use Rattle.recordings.proofs.blocks.take_block.Statement.{statement}

@@ -1,10 +1,8 @@
 -- `recordings::ending::finish` meets its contract, by a law for each way. Assumes nothing.
-use mathlib.Core.List.{List}
-use mathlib.Core.Path.{_≡_, refl, sym, ap, _∙_}
-use Prim.Native.Nat.{ℕ}
+use mathlib.Core.Path.{sym, ap, _∙_}
 use native.Mathlib.Omega.{arith}
 use borrow.Author.Needs.{needs}
-use lib.ListN.{length, take}
+use lib.ListN.{take}
 use lib.Seq.{length-take-le}
 use Rattle.columns.specs.Listing.{refusalLineLength}
 use Rattle.columns.specs.Calls.{refusalLineWritten}

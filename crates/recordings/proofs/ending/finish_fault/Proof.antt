@@ -1,5 +1,5 @@
 -- `recordings::ending::finish_fault` meets its contract: the checks are made in the order of the definition. Assumes nothing.
-use mathlib.Core.Path.{_≡_, sym, _∙_}
+use mathlib.Core.Path.{sym, _∙_}
 use borrow.Author.Needs.{needs}
 use borrow.Author.Tests.{not-true, not-false}
 use Rattle.recordings.proofs.Output.{finish-of-wide, finish-of-refused, finish-of-unsound, finish-of-none, finish-of-some}

@@ -1,5 +1,5 @@
 -- `recordings::lines::number_on_line` meets its contract. Assumes nothing.
-use mathlib.Core.Path.{_≡_, refl, sym, _∙_}
+use mathlib.Core.Path.{_∙_}
 use native.Mathlib.Omega.{arith}
 use borrow.Author.Needs.{needs}
 use Rattle.recordings.proofs.NumberOnLine.{number-of-cut, number-without-newline, number-of-column, column-read}

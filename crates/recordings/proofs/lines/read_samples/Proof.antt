@@ -1,13 +1,12 @@
 -- `recordings::lines::read_samples` meets its contract. The loop's invariant: the lines passed have no fault, and their samples stand in front of what was there.
 -- The measure is the count of lines that are left. Assumes nothing.
-use mathlib.Core.List.{List, _++_}
+use mathlib.Core.List.{_++_}
 use mathlib.Core.Path.{_≡_, refl, sym, ap, _∙_}
-use Prim.Native.Nat.{ℕ, _+_, _-_, _≤_, _<_}
+use Prim.Native.Nat.{_+_, _-_, _≤_, _<_}
 use native.Mathlib.Nat.{lt-of-le-of-lt}
 use native.Mathlib.Omega.{arith}
 use borrow.Author.Needs.{needs}
 use lib.Dec.{lit<}
-use lib.IntN.{ℤ}
 use lib.ListN.{length, drop}
 use mir.Facts.{toZ-ofZ}
 use mir.Syntax.{w32, w64}
@@ -17,10 +16,10 @@ use Rattle.algebra.proofs.Lists.{fill-tabulate}
 use Rattle.refusals.specs.Numbers.{noRefusal}
 use Rattle.columns.specs.declared.Number.{Number}
 use Rattle.spectrum.proofs.Signed.{sfits-natAbs}
-use Rattle.recordings.specs.Lines.{lineAt, lineNumber, numberOr0, numberAt}
+use Rattle.recordings.specs.Lines.{lineAt, numberAt}
 use Rattle.recordings.specs.Faults.{firstOf}
 use Rattle.recordings.specs.Reading.{sampleFault, faultOfLines}
-use Rattle.recordings.specs.Steps.{sampleOn, ReadInto}
+use Rattle.recordings.specs.Steps.{sampleOn}
 use Rattle.recordings.proofs.FirstOf.{first-next, first-found}
 use Rattle.recordings.proofs.Samples.{in-range-of-none, sample-of-none, sample-le}
 use Rattle.recordings.proofs.lines.read_samples.Statement.{statement}

@@ -3,10 +3,8 @@ use mathlib.Core.List.{List}
 use mathlib.Core.Path.{_≡_, refl, sym, ap, _∙_}
 use Prim.Native.Nat.{ℕ}
 use borrow.Author.Needs.{needs}
-use lib.IntN.{ℤ}
 use mir.Facts.{toZ-ofZ}
 use mir.Syntax.{w64}
-use mir.Val.{toZ, ofZ}
 use Rattle.columns.specs.declared.Number.{Number}
 use Rattle.columns.specs.Calls.{readingOf}
 use Rattle.spectrum.specs.Spectrum.{outOfRange}
