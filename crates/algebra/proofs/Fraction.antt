@@ -3,7 +3,6 @@
 use mathlib.Core.Bool.{Bool, true, false, not, cond}
 use mathlib.Core.HLevel.{isProp→PathP}
 use mathlib.Core.List.{List, [], _∷_, map}
-use mathlib.Core.Logic.{_⊎_, inl, inr}
 use mathlib.Core.Path.{_≡_, refl, ap}
 use Prim.Native.Nat.{ℕ, suc, _+_, _*_, _-_, _≤_, _<_, max}
 use native.Mathlib.Bridge.{le-prop}
@@ -43,9 +42,6 @@ sides-worked = omega arith
 pub ≤ᶠ-refl : (p : Fraction) → p ≤ᶠ p
 ≤ᶠ-refl p = le-refl (p .num * p .den)
 
-pub <ᶠ-le : (p q : Fraction) → p <ᶠ q → p ≤ᶠ q
-<ᶠ-le p q h = le-of-lt h
-
 pub ≤ᶠ-trans : (p q r : Fraction) → p ≤ᶠ q → q ≤ᶠ r → p ≤ᶠ r
 ≤ᶠ-trans p q r h k =
     le-of-mul-le-mul-right {k = q .den} (omega (arith, mul-le-mul-right (r .den) h, mul-le-mul-right (p .den) k)) (q .den-pos)
@@ -54,10 +50,6 @@ pub <ᶠ-≤ᶠ-trans : (p q r : Fraction) → p <ᶠ q → q ≤ᶠ r → p <�
 <ᶠ-≤ᶠ-trans p q r h k =
     by-contra (suc (p .num * r .den)) (r .num * p .den) λ l. omega (arith, ≤ᶠ-trans q r p k (le-of-suc-le-suc l))
 
-pub ≤ᶠ-<ᶠ-trans : (p q r : Fraction) → p ≤ᶠ q → q <ᶠ r → p <ᶠ r
-≤ᶠ-<ᶠ-trans p q r h k =
-    by-contra (suc (p .num * r .den)) (r .num * p .den) λ l. omega (arith, ≤ᶠ-trans r p q (le-of-suc-le-suc l) h)
-
 -- what holds in each order of the two holds of the test of their order
 by-test : (p q : Fraction) (P : Bool → Type 0) → (p ≤ᶠ q → P true) → (q <ᶠ p → P false) → P (leb (p .num * q .den) (q .num * p .den))
 by-test p q P f g = go (leb (p .num * q .den) (q .num * p .den)) (leb→le _ _) (nleb→lt _ _)
@@ -65,13 +57,6 @@ by-test p q P f g = go (leb (p .num * q .den) (q .num * p .den)) (leb→le _ _) 
     go : (c : Bool) → (T c → p ≤ᶠ q) → (T (not c) → q <ᶠ p) → P c
     go true l r = f (l tt)
     go false l r = g (r tt)
-
--- one of the two, and not both
-pub ≤ᶠ-or-<ᶠ : (p q : Fraction) → (p ≤ᶠ q) ⊎ (q <ᶠ p)
-≤ᶠ-or-<ᶠ p q = by-test p q (λ c. (p ≤ᶠ q) ⊎ (q <ᶠ p)) inl inr
-
-pub not-≤ᶠ-<ᶠ : (p q : Fraction) → p ≤ᶠ q → q <ᶠ p → ⊥
-not-≤ᶠ-<ᶠ p q h k = omega arith
 
 pub +ᶠ-whole-≤ᶠ : (p q : Fraction) (m : ℕ) → p ≤ᶠ q → p +ᶠ whole m ≤ᶠ q +ᶠ whole m
 unfolding whole _+ᶠ_

@@ -1,6 +1,6 @@
--- The laws of a sum over j = 0 .. n − 1: equal summands, sums and differences of summands, a constant factor, and a bound.
+-- The laws of a sum over j = 0 .. n − 1: sums and differences of summands, a constant factor, and a bound.
 -- Assumes nothing.
-use mathlib.Core.Path.{_≡_, refl, sym, _∙_, ap, ap₂}
+use mathlib.Core.Path.{_≡_, refl, sym, _∙_, ap}
 use mathlib.Core.List.{[], _∷_}
 use Prim.Native.Nat.{ℕ, zero, suc, _+_, _*_, _≤_, _<_}
 use native.Mathlib.Nat.{le-refl, le-step, le-trans, add-le-add}
@@ -9,12 +9,6 @@ use lib.IntN.{ℤ, negℤ, natAbs, _+ℤ_, _-ℤ_, _*ℤ_, *ℤ-zero, negℤ-+�
 use Rattle.algebra.specs.Sums.{sumTo}
 use Rattle.algebra.proofs.Integer.{*ℤ-+ℤ, natAbs-+ℤ-le}
 use Rattle.algebra.proofs.Ring.{variable, _⊕_, ring}
-
--- equal summands give equal sums
-pub sumTo-cong : (n : ℕ) (f g : ℕ → ℤ) → ((j : ℕ) → j < n → f j ≡ g j) → sumTo n f ≡ sumTo n g
-unfolding sumTo
-sumTo-cong zero f g h = refl
-sumTo-cong (suc n) f g h = ap₂ _+ℤ_ (sumTo-cong n f g (λ j l. h j (le-step l))) (h n (le-refl (suc n)))
 
 -- the sum of sums is taken summand by summand
 pub sumTo-+ℤ : (n : ℕ) (f g : ℕ → ℤ) → sumTo n (λ j. f j +ℤ g j) ≡ sumTo n f +ℤ sumTo n g

@@ -1,14 +1,14 @@
 -- Cauchy-Schwarz over lists with weights, and the triangle step that follows from it, stated over squares so that no root is taken.
--- Both are shown for absolute values, in ℕ: the product of two integers is at most the product of their absolute values.
+-- Both are shown for absolute values, in ℕ.
 -- Assumes nothing.
-use mathlib.Core.Path.{_≡_, refl, ap}
-use mathlib.Core.List.{List, [], _∷_, _++_, map}
+use mathlib.Core.Path.{_≡_, refl}
+use mathlib.Core.List.{List, [], _∷_, _++_}
 use Prim.Native.Nat.{ℕ, zero, suc, _+_, _*_, _≤_, _<_}
-use native.Mathlib.Nat.{le-refl, le-trans, le-of-lt, lt-of-le-of-lt, mul-le-mul, mul-le-mul-left}
+use native.Mathlib.Nat.{le-trans, le-of-lt, lt-of-le-of-lt, mul-le-mul, mul-le-mul-left}
 use native.Mathlib.Omega.{arith, by-contra}
-use lib.IntN.{ℤ, pos, natAbs, _+ℤ_, _*ℤ_}
-use Rattle.algebra.specs.Weighted.{sumOver, sumOverℤ, weightedSquares, weightedProducts, Everywhere}
-use Rattle.algebra.proofs.Integer.{natAbs-*ℤ, natAbs-+ℤ-le}
+use lib.IntN.{ℤ, natAbs, _*ℤ_}
+use Rattle.algebra.specs.Weighted.{sumOver, weightedSquares, Everywhere}
+use Rattle.algebra.proofs.Integer.{natAbs-*ℤ}
 
 -- ---- squares of whole numbers
 
@@ -20,7 +20,7 @@ double-product-le zero y = omega arith
 double-product-le (suc x) zero = omega arith
 double-product-le (suc x) (suc y) = omega (arith, double-product-le x y)
 
--- ---- Cauchy-Schwarz: (Σ w a b)² ≤ (Σ w a²)(Σ w b²)
+-- ---- Cauchy-Schwarz: (Σ w |a| |b|)² ≤ (Σ w a²)(Σ w b²)
 
 absoluteProducts : {A : Type 0} → (A → ℕ) → (a b : A → ℤ) → List A → ℕ
 absoluteProducts w a b places = sumOver (λ p. w p * (natAbs (a p) * natAbs (b p))) places
@@ -33,20 +33,10 @@ cauchy-schwarz-step w a b A B Y h = omega (arith, h, mul-le-mul-left w cross)
     cross = le-of-square-le (2 * (Y * (a * b))) (A * (b * b) + B * (a * a)) (omega (arith, mul-le-mul-left (a * b * (a * b)) h, double-product-le (A * (b * b)) (B * (a * a))))
 
 module _ {A : Type 0} (w : A → ℕ) (a b : A → ℤ) where
-  cauchy-schwarz-absolute : (places : List A) → absoluteProducts w a b places * absoluteProducts w a b places ≤ weightedSquares w a places * weightedSquares w b places
+  cauchy-schwarz : (places : List A) → absoluteProducts w a b places * absoluteProducts w a b places ≤ weightedSquares w a places * weightedSquares w b places
   unfolding absoluteProducts sumOver
-  cauchy-schwarz-absolute [] = omega arith
-  cauchy-schwarz-absolute (p ∷ places) = cauchy-schwarz-step (w p) (natAbs (a p)) (natAbs (b p)) (weightedSquares w a places) (weightedSquares w b places) (absoluteProducts w a b places) (cauchy-schwarz-absolute places)
-
-  products-le-absolute : (places : List A) → natAbs (weightedProducts w a b places) ≤ absoluteProducts w a b places
-  unfolding absoluteProducts sumOver sumOverℤ
-  products-le-absolute [] = le-refl 0
-  products-le-absolute (p ∷ places) =
-      le-trans (natAbs-+ℤ-le (pos (w p) *ℤ (a p *ℤ b p)) (weightedProducts w a b places))
-      (omega (arith, natAbs-*ℤ (pos (w p)) (a p *ℤ b p), ap (λ n. w p * n) (natAbs-*ℤ (a p) (b p)), products-le-absolute places))
-
-  pub cauchy-schwarz : (places : List A) → natAbs (weightedProducts w a b places) * natAbs (weightedProducts w a b places) ≤ weightedSquares w a places * weightedSquares w b places
-  cauchy-schwarz places = le-trans (mul-le-mul (products-le-absolute places) (products-le-absolute places)) (cauchy-schwarz-absolute places)
+  cauchy-schwarz [] = omega arith
+  cauchy-schwarz (p ∷ places) = cauchy-schwarz-step (w p) (natAbs (a p)) (natAbs (b p)) (weightedSquares w a places) (weightedSquares w b places) (absoluteProducts w a b places) (cauchy-schwarz places)
 
 -- ---- the triangle step
 
@@ -63,11 +53,7 @@ module _ {A : Type 0} (w : A → ℕ) (s a b : A → ℤ) where
   -- A vector s of at most |a| + |b| at each place: if Σ w a² is below c · r² and Σ w b² at most c · t², then Σ w s² is below
   -- c · (r + t)². This is the triangle inequality of the roots, which r and t bound.
   pub triangle-lt : ((p : A) → natAbs (s p) ≤ natAbs (a p) + natAbs (b p)) → (places : List A) (c r t : ℕ) → weightedSquares w a places < c * (r * r) → weightedSquares w b places ≤ c * (t * t) → weightedSquares w s places < c * ((r + t) * (r + t))
-  triangle-lt h places c r t ha hb = lt-of-le-of-lt (squares-le h places) (triangle-step c r t (weightedSquares w a places) (weightedSquares w b places) (absoluteProducts w a b places) (cauchy-schwarz-absolute w a b places) ha hb)
-
--- for the sum of two vectors
-pub sum-squares-lt : {A : Type 0} (w : A → ℕ) (a b : A → ℤ) (places : List A) (c r t : ℕ) → weightedSquares w a places < c * (r * r) → weightedSquares w b places ≤ c * (t * t) → weightedSquares w (λ p. a p +ℤ b p) places < c * ((r + t) * (r + t))
-sum-squares-lt w a b = triangle-lt w (λ p. a p +ℤ b p) a b (λ p. natAbs-+ℤ-le (a p) (b p))
+  triangle-lt h places c r t ha hb = lt-of-le-of-lt (squares-le h places) (triangle-step c r t (weightedSquares w a places) (weightedSquares w b places) (absoluteProducts w a b places) (cauchy-schwarz w a b places) ha hb)
 
 -- ---- laws of the sums over a list
 
@@ -83,12 +69,6 @@ module _ {A : Type 0} where
   unfolding sumOver
   squares-le-weights w a n k [] h = omega arith
   squares-le-weights w a n k (p ∷ places) h = omega (arith, mul-le-mul-left (w p) (mul-le-mul (h .0) (h .0)), squares-le-weights w a n k places (h .1))
-
-  -- a sum of two numbers at each place
-  pub sumOver-+ : (f g h : A → ℕ) → ((p : A) → h p ≡ f p + g p) → (places : List A) → sumOver h places ≡ sumOver f places + sumOver g places
-  unfolding sumOver
-  sumOver-+ f g h e [] = omega arith
-  sumOver-+ f g h e (p ∷ places) = omega (arith, e p, sumOver-+ f g h e places)
 
   -- the same number at each place
   pub sumOver-eq : (f g : A → ℕ) (places : List A) → Everywhere (λ p. f p ≡ g p) places → sumOver f places ≡ sumOver g places
@@ -121,13 +101,3 @@ module _ {A : Type 0} where
   pub everywhere-append : (F : A → Type 0) (places more : List A) → Everywhere F places → Everywhere F more → Everywhere F (places ++ more)
   everywhere-append F [] more h k = k
   everywhere-append F (p ∷ places) more h k = (h .0, everywhere-append F places more (h .1) k)
-
--- a list whose entries are made from another's
-pub sumOver-map : {A B : Type 0} (f : B → ℕ) (g : A → B) (places : List A) → sumOver f (map g places) ≡ sumOver (λ p. f (g p)) places
-unfolding sumOver
-sumOver-map f g [] = refl
-sumOver-map f g (p ∷ places) = ap (λ n. f (g p) + n) (sumOver-map f g places)
-
-pub everywhere-map : {A B : Type 0} (F : B → Type 0) (g : A → B) (places : List A) → Everywhere (λ p. F (g p)) places → Everywhere F (map g places)
-everywhere-map F g [] h = tt
-everywhere-map F g (p ∷ places) h = (h .0, everywhere-map F g places (h .1))

@@ -3,25 +3,16 @@
 -- exact sum that is a fraction. The exact root need not be a fraction, so both sides are compared as squares, and no root is taken.
 use mathlib.Core.List.{List, [], _∷_}
 use Prim.Native.Nat.{ℕ, _+_, _*_, _-_, _≤_, _<_}
-use lib.IntN.{ℤ, pos, natAbs, _+ℤ_, _-ℤ_, _*ℤ_}
+use lib.IntN.{ℤ, pos, natAbs, _-ℤ_, _*ℤ_}
 
 -- the sum of f over the list
 unfoldable pub sumOver : {A : Type 0} → (A → ℕ) → List A → ℕ
 sumOver f [] = 0
 sumOver f (p ∷ places) = f p + sumOver f places
 
--- the same of integers
-unfoldable pub sumOverℤ : {A : Type 0} → (A → ℤ) → List A → ℤ
-sumOverℤ f [] = pos 0
-sumOverℤ f (p ∷ places) = f p +ℤ sumOverℤ f places
-
 -- the sum of w · a²
 abbrev pub weightedSquares : {A : Type 0} → (A → ℕ) → (A → ℤ) → List A → ℕ
 weightedSquares w a places = sumOver (λ p. w p * (natAbs (a p) * natAbs (a p))) places
-
--- the sum of w · a · b
-abbrev pub weightedProducts : {A : Type 0} → (A → ℕ) → (A → ℤ) → (A → ℤ) → List A → ℤ
-weightedProducts w a b places = sumOverℤ (λ p. pos (w p) *ℤ (a p *ℤ b p)) places
 
 -- a fact that holds at each entry of the list
 abbrev pub Everywhere : {A : Type 0} → (A → Type 0) → List A → Type 0

@@ -11,7 +11,7 @@ use lib.ListN.{length, getD, replicate, List·getD-eq-default}
 use borrow.Author.Tests.{ltb-true, ltb-false, lt-ltb, le-leb, eqb-true, ne-eqb, not-false}
 use Rattle.algebra.specs.Lists.{tabulate, anyOf}
 use Rattle.algebra.proofs.Lists.{anyOf-none, getD-tabulate-le, tabulate-same}
-use Rattle.integers.proofs.Root.{Root, root-law, lt-rootLimit, root-of-largest, root-le-of-le}
+use Rattle.integers.proofs.Root.{lt-rootLimit, root-of-largest, root-le-of-le}
 use Rattle.refusals.specs.Numbers.{noRefusal, unknownSystem, orderOutOfRange, wrongLineCount, lineTooLarge}
 use Rattle.refusals.proofs.Answers.{no-fault}
 use Rattle.spectrum.specs.Line.{lineCount}
@@ -64,12 +64,6 @@ pub group-sum-lt : (kind : Kind) (system order : ℕ) (lines : List ℕ) → gro
 group-sum-lt kind system order lines e =
     let a = accepted system order lines e in
     weighted-sum-lt lines (a .in-range) (weightsOf kind system order) (weights-total-le kind system order (a .known-system))
-
--- the value of such a group is the whole part of the root of its sum
-pub group-value-root : (kind : Kind) (system order : ℕ) (lines : List ℕ) → groupRefusal system order lines ≡ noRefusal → Root (weightedSum (lineAt lines) (weightsOf kind system order)) (groupValue kind system order lines)
-unfolding groupValue
-group-value-root kind system order lines e =
-    root-law _ (lt-rootLimit _ (group-sum-lt kind system order lines e))
 
 -- so it is a number of 32 bits
 pub group-value-le : (kind : Kind) (system order : ℕ) (lines : List ℕ) → groupRefusal system order lines ≡ noRefusal → groupValue kind system order lines ≤ 2 ^ 32 - 1

@@ -1,12 +1,12 @@
--- A turn made of its first quarter: what holds over the quarter holds at every index, the wave repeats after a turn, and its reflections.
+-- A turn made of its first quarter: what holds over the quarter holds at every index, and the wave repeats after a turn.
 -- Assumes nothing.
-use mathlib.Core.Path.{_≡_, sym, ap, _∙_}
+use mathlib.Core.Path.{_≡_}
 use mathlib.Core.Logic.{_⊎_, inl, inr, ⊎-elim}
-use Prim.Native.Nat.{ℕ, _+_, _-_, _%_, _≤_, _<_}
+use Prim.Native.Nat.{ℕ, _-_, _%_, _≤_, _<_}
 use native.Mathlib.Decide.{decLe}
 use native.Mathlib.Nat.{mod-mod}
 use native.Mathlib.Omega.{arith, not-le}
-use lib.IntN.{ℤ, pos, negℤ, negℤ-negℤ}
+use lib.IntN.{ℤ, pos, negℤ}
 use borrow.Author.Tests.{lt-ltb, le-ltb, le-leb, lt-leb}
 use Rattle.sine.specs.Turn.{overHalf, overTurn, turn, halfTurn, quarterTurn}
 
@@ -56,34 +56,3 @@ module _ (P : ℤ → ℤ → Type 0) (f g : ℕ → ℕ)
 pub overTurn-mod : (f : ℕ → ℕ) (i : ℕ) → overTurn f (i % turn) ≡ overTurn f i
 unfolding overTurn
 overTurn-mod f i = rw mod-mod
-
--- half a turn on the wave is its negative
-pub overTurn-half : (f : ℕ → ℕ) (i : ℕ) → overTurn f (i + halfTurn) ≡ negℤ (overTurn f i)
-overTurn-half f i =
-    ⊎-elim
-    (λ (second : halfTurn ≤ i % turn).
-    let back : (i + halfTurn) % turn ≡ i % turn - halfTurn = omega arith in
-    overTurn-first f (i + halfTurn) (omega arith)
-    ∙ ap (λ (r : ℕ). pos (overHalf f r)) back
-    ∙ sym (ap negℤ (overTurn-second f i second) ∙ negℤ-negℤ (pos (overHalf f (i % turn - halfTurn)))))
-    (λ (first : i % turn < halfTurn).
-    let on : (i + halfTurn) % turn - halfTurn ≡ i % turn = omega arith in
-    overTurn-second f (i + halfTurn) (omega arith)
-    ∙ ap (λ (r : ℕ). negℤ (pos (overHalf f r))) on
-    ∙ sym (ap negℤ (overTurn-first f i first)))
-    (le-or-lt halfTurn (i % turn))
-
--- the first half turn is the same backwards
-pub overHalf-reflected : (f : ℕ → ℕ) (r : ℕ) → r ≤ halfTurn → overHalf f (halfTurn - r) ≡ overHalf f r
-overHalf-reflected f r h =
-    ⊎-elim
-    (λ (back : quarterTurn ≤ r).
-    overHalf-up f (halfTurn - r) (omega arith)
-    ∙ ⊎-elim
-    (λ (top : r ≤ quarterTurn). ap f (omega arith) ∙ sym (overHalf-up f r top))
-    (λ (past : quarterTurn < r). sym (overHalf-back f r past))
-    (le-or-lt r quarterTurn))
-    (λ (up : r < quarterTurn).
-    let again : halfTurn - (halfTurn - r) ≡ r = omega arith in
-    overHalf-back f (halfTurn - r) (omega arith) ∙ ap f again ∙ sym (overHalf-up f r (omega arith)))
-    (le-or-lt quarterTurn r)

@@ -8,17 +8,17 @@ use native.Mathlib.Nat.{mod-lt}
 use native.Mathlib.Omega.{arith}
 use lib.Dec.{leb, leb→le, le→leb, lit<}
 use lib.IntN.{ℤ, pos, negℤ, natAbs, _-ℤ_, _*ℤ_, negℤ-+ℤ, *ℤ-zero, *ℤ-negsuc}
-use lib.ListN.{length, getD}
+use lib.ListN.{getD}
 use borrow.Author.Tests.{lt-ltb, le-ltb}
 use Rattle.algebra.specs.Rounding.{nearest}
 use Rattle.algebra.proofs.Integer.{natAbs-negℤ}
-use Rattle.algebra.proofs.Lists.{length-tabulate, getD-tabulate}
+use Rattle.algebra.proofs.Lists.{getD-tabulate}
 use Rattle.sine.specs.Turn.{overHalf, overTurn, turn, halfTurn, quarterTurn}
 use Rattle.sine.specs.ExactSine.{denominator, term, factorial, added, takenAway, quarterSine, exactSine, exactCosine}
 use Rattle.sine.specs.Wave.{fullScale, tableEntry, tableSine, tableCosine, WithinHalfUnit, quarterList, waveList}
 use Rattle.algebra.proofs.Computed.{pass-below}
 use Rattle.algebra.proofs.Rounding.{nearest-is}
-use Rattle.sine.proofs.Turn.{le-or-lt, overTurn-first, over-turn, overTurn-mod, overTurn-half}
+use Rattle.sine.proofs.Turn.{le-or-lt, overTurn-first, over-turn, overTurn-mod}
 use Rattle.sine.proofs.ExactSine.{denominator-pos}
 
 *ℤ-negℤ : (a : ℤ) (n : ℕ) → a *ℤ negℤ (pos n) ≡ negℤ (a *ℤ pos n)
@@ -93,27 +93,10 @@ pub tableSine-mod : (i : ℕ) → tableSine (i % turn) ≡ tableSine i
 unfolding tableSine
 tableSine-mod = overTurn-mod tableEntry
 
-pub exactSine-mod : (i : ℕ) → exactSine (i % turn) ≡ exactSine i
-unfolding exactSine
-exactSine-mod = overTurn-mod quarterSine
-
--- half a turn on is the negative
-pub tableSine-half : (i : ℕ) → tableSine (i + halfTurn) ≡ negℤ (tableSine i)
-unfolding tableSine
-tableSine-half = overTurn-half tableEntry
-
-pub exactSine-half : (i : ℕ) → exactSine (i + halfTurn) ≡ negℤ (exactSine i)
-unfolding exactSine
-exactSine-half = overTurn-half quarterSine
-
 -- the lists at each place
 pub quarterList-at : (m : ℕ) → m ≤ quarterTurn → getD quarterList m 0 ≡ tableEntry m
 unfolding quarterList
 quarterList-at m h = getD-tabulate (quarterTurn + 1) tableEntry m 0 (omega arith)
-
-pub length-waveList : length waveList ≡ turn
-unfolding waveList
-length-waveList = length-tabulate turn tableSine
 
 pub waveList-at : (i : ℕ) → i < turn → getD waveList i (pos 0) ≡ tableSine i
 unfolding waveList

@@ -18,7 +18,7 @@ ghost use mathlib.Core.Path.{_≡_};
 ghost use mathlib.Core.Bool.{_&&_};
 ghost use lib.Dec.{leb};
 ghost use Rattle.refusals.specs.Numbers.{noRefusal};
-ghost use Rattle.verdict.specs.Call.{verdictOf, verdictRefusal, verdictAnswer};
+ghost use Rattle.verdict.specs.Call.{verdictOf, verdictRefusal, verdictAnswer, refusalNumber};
 
 // The first order that is judged.
 const FIRST_JUDGED: u32 = 2;
@@ -82,6 +82,7 @@ fn verdict_of(observation: Observation, order: u32, units_per_ampere: u32) -> Ve
 // outside 2..40, 11 units per ampere outside 1..2^28.
 pub fn verdict(observation: Observation, order: u32, units_per_ampere: u32) -> Answered
     ensures { λ r. ⌜ r ≡ verdictAnswer observation order «units_per_ampere» ⌝ }
+    ensures { λ r. ⌜ refusalNumber r ≡ verdictRefusal observation order «units_per_ampere» ⌝ }
 {
     let refusal = verdict_refusal(observation, order, units_per_ampere);
     if refusal != NO_REFUSAL {

@@ -34,7 +34,7 @@ verdict-requires c κs = search needs
 
 -- the answer, of the record that the words hold
 answer-eq : (c : tie.After-verdict) → c .verdict .result ≡ verdictAnswer (recordOf (c .before .before .before .before .before .before .args .words .now)) (c .before .before .before .before .before .before .args .order) (c .before .before .before .before .before .before .args .units-per-ampere)
-answer-eq c = rw (← c .before .read-record .ensures) (c .verdict .ensures)
+answer-eq c = rw (← c .before .read-record .ensures) (c .verdict .ensures .0)
 
 enum-known-answered : tie.Need-enum-known-answered
 enum-known-answered c = search needs

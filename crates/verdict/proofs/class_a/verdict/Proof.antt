@@ -1,8 +1,9 @@
 -- `verdict::class_a::verdict` meets its contract: the refusal, or the verdict of a call that is not refused. Assumes nothing.
+use mathlib.Core.Path.{sym, _∙_}
 use borrow.Author.Needs.{needs}
 use borrow.Author.Tests.{ne-eqb}
 use Rattle.refusals.specs.Numbers.{noRefusal}
-use Rattle.verdict.specs.Call.{verdictAnswer}
+use Rattle.verdict.specs.Call.{verdictAnswer, refusalNumber}
 use Rattle.verdict.proofs.class_a.verdict.Statement.{statement}
 use Rattle.verdict.proofs.class_a.verdict.Tie as tie
 
@@ -10,20 +11,20 @@ verdict-refusal-requires : tie.Need-verdict-refusal-requires
 verdict-refusal-requires c κs = search needs
 
 returns : tie.Need-returns
-unfolding verdictAnswer
-returns c = rw (← c .before .verdict-refusal .ensures, ne-eqb _ noRefusal (c .if1 .taken))
+unfolding verdictAnswer refusalNumber
+returns c =
+    let refusal = c .before .verdict-refusal .ensures in
+    (rw (← refusal, ne-eqb _ noRefusal (c .if1 .taken)), refusal)
 
 verdict-of-requires : tie.Need-verdict-of-requires
 verdict-of-requires c κs = search needs
 
 returns-2 : tie.Need-returns-2
-unfolding verdictAnswer
+unfolding verdictAnswer refusalNumber
 returns-2 c =
-    rw (
-      ← c .before .before .verdict-refusal .ensures,
-      c .before .if1 .left,
-      c .verdict-of .ensures,
-    )
+    let refusal = c .before .before .verdict-refusal .ensures in
+    let none = c .before .if1 .left in
+    (rw (← refusal, none, c .verdict-of .ensures), sym none ∙ refusal)
 
 pub verdict-spec : {M : Type 1} → statement M
 verdict-spec = tie.close (tie.spec verdict-refusal-requires returns verdict-of-requires returns-2)
