@@ -18,8 +18,8 @@ use refusals::NO_REFUSAL;
 // After so many whole windows a reading is refused, so that no input is read further.
 const MOST_BLOCKS: u32 = MOST_WINDOWS + 1;
 
-// A reading, and whether more of the input may follow.
-struct Turn {
+// The reading after a block, and whether the block was whole, so that more of the input may follow.
+struct AfterBlock {
     reading: Reading,
     is_whole: bool,
 }
@@ -30,10 +30,10 @@ fn read_line() -> Reading {
     begin(&line[..count])
 }
 
-fn read_block(reading: Reading) -> Turn {
+fn read_block(reading: Reading) -> AfterBlock {
     let mut block = [0u8; WINDOW_BYTES];
     let count = io::read_full(STDIN_FILENO, &mut block);
-    Turn {
+    AfterBlock {
         reading: take_block(reading, &block[..count]),
         is_whole: count == WINDOW_BYTES,
     }
@@ -47,9 +47,9 @@ fn read_blocks(first: Reading) -> Reading {
         if reading.refusal != NO_REFUSAL {
             return reading;
         }
-        let turn = read_block(reading);
-        reading = turn.reading;
-        if !turn.is_whole {
+        let after = read_block(reading);
+        reading = after.reading;
+        if !after.is_whole {
             return reading;
         }
         blocks += 1;

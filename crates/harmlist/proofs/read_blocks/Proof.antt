@@ -1,7 +1,8 @@
 -- `harmlist::read_blocks` is safe and ends. The measure is the count of blocks that may still come.
--- Nothing has to hold from turn to turn, so the invariant is `Unit {0}`, which `tt` shows. Assumes nothing.
-use Prim.Native.Nat.{_-_}
+-- Nothing has to hold from one block to the next, so the invariant is `Unit {0}`, which `tt` shows. Assumes nothing.
+use Prim.Native.Nat.{_+_, _-_}
 use native.Mathlib.Omega.{arith}
+use Rattle.observation.specs.Soundness.{mostWindows}
 use Rattle.harmlist.proofs.read_blocks.Statement.{statement}
 use Rattle.harmlist.proofs.read_blocks.Tie as tie
 
@@ -9,7 +10,7 @@ abbrev Inv-loop : tie.InvT-loop
 Inv-loop reading₀ blocks₀ reading blocks = Unit {0}
 
 abbrev μ-loop : tie.MeasureT-loop
-μ-loop reading₀ blocks₀ reading blocks = 45001 - blocks
+μ-loop reading₀ blocks₀ reading blocks = mostWindows + 1 - blocks
 
 loop-holds : tie.Need-loop-holds Inv-loop μ-loop
 loop-holds c = tt
