@@ -52,14 +52,13 @@
  *
  * Linking
  *
- *     With libinterface.a, which `rt staticlib interface` writes to target/staticlib, for x86-64 Linux.
+ *     With libkifsang.a, which `rt staticlib kifsang` writes to target/staticlib, for x86-64 Linux.
  *
  * "Definition" names what the result is proved to equal, and the file that has it.
  */
 #ifndef KIFSANG_H
 #define KIFSANG_H
 
-#include <stddef.h>
 #include <stdint.h>
 
 #ifdef __cplusplus
@@ -112,15 +111,15 @@ enum kifsang_kind {
     KIFSANG_INTERHARMONIC_CENTRED_SUBGROUP = 4
 };
 
-/* How an order stands to its limit. */
+/* How an order stands to its limit. 0 is none of them: a variable that was zeroed and that no call
+ * wrote is no verdict. */
 enum kifsang_verdict_number {
-    KIFSANG_WITHIN = 0,
-    KIFSANG_CLOSE = 1,
-    KIFSANG_OVER = 2
+    KIFSANG_WITHIN = 1,
+    KIFSANG_CLOSE = 2,
+    KIFSANG_OVER = 3
 };
 
-/* A length is 64 bits wide, and a record is 122 words. */
-typedef char kifsang_assert_lengths_of_64_bits[sizeof(size_t) == 8 ? 1 : -1];
+/* A record is 122 words. */
 typedef char kifsang_assert_record_of_122_words[KIFSANG_RECORD_WORDS == 122 ? 1 : -1];
 
 /*
@@ -138,8 +137,8 @@ typedef char kifsang_assert_record_of_122_words[KIFSANG_RECORD_WORDS == 122 ? 1 
  *   unrounded (cosine-sum-near and sine-sum-near, crates/spectrum/proofs/Distance.antt).
  * Definition: spectrumRefusal and spectrumBuffer, crates/spectrum/specs/Spectrum.antt.
  */
-uint32_t kifsang_spectrum(const int32_t *recording, size_t recording_length, size_t start,
-                          uint64_t *lines, size_t line_count);
+uint32_t kifsang_spectrum(const int32_t *recording, uint64_t recording_length, uint64_t start,
+                          uint64_t *lines, uint64_t line_count);
 
 /*
  * Works out one group value.
@@ -155,10 +154,10 @@ uint32_t kifsang_spectrum(const int32_t *recording, size_t recording_length, siz
  *   5 a line above 2^59. A refused call leaves the value as it was.
  * Proved error: for the lines of a window in range the value is at most 7 units from the exact group
  *   (demand3, crates/accuracy/proofs/Demand3.antt).
- * Definition: groupCallRefusal and groupCallValue, crates/interface/specs/GroupCalls.antt.
+ * Definition: groupCallRefusal and groupCallValue, crates/kifsang/specs/GroupCalls.antt.
  */
 uint32_t kifsang_group_value(uint32_t kind, uint32_t system, uint32_t order, const uint64_t *lines,
-                             size_t line_count, uint64_t *value);
+                             uint64_t line_count, uint64_t *value);
 
 /*
  * Works out the 40 group values of a kind, a row.
@@ -173,10 +172,10 @@ uint32_t kifsang_group_value(uint32_t kind, uint32_t system, uint32_t order, con
  * Refusals: 101 no such kind; 102 value_count is not 40; 1 system not 10 or 12; 4 line_count is not
  *   512; 5 a line above 2^59. A refused call leaves the values as they were.
  * Proved error: that of kifsang_group_value, for each order.
- * Definition: rowCallRefusal and rowCallValues, crates/interface/specs/GroupCalls.antt.
+ * Definition: rowCallRefusal and rowCallValues, crates/kifsang/specs/GroupCalls.antt.
  */
-uint32_t kifsang_row(uint32_t kind, uint32_t system, const uint64_t *lines, size_t line_count,
-                     uint32_t *values, size_t value_count);
+uint32_t kifsang_row(uint32_t kind, uint32_t system, const uint64_t *lines, uint64_t line_count,
+                     uint32_t *values, uint64_t value_count);
 
 /*
  * Works out the group distortion of a row: the largest whole t with t^2 * value[0]^2 at most 1000000
@@ -189,9 +188,9 @@ uint32_t kifsang_row(uint32_t kind, uint32_t system, const uint64_t *lines, size
  * Refusals: 102 value_count is not 40; 12 the value of order 1 is 0. A refused call leaves
  *   parts_per_thousand as it was.
  * Proved error: none, t is exact for the values that are given.
- * Definition: distortionCallRefusal and distortionCallValue, crates/interface/specs/GroupCalls.antt.
+ * Definition: distortionCallRefusal and distortionCallValue, crates/kifsang/specs/GroupCalls.antt.
  */
-uint32_t kifsang_distortion(const uint32_t *values, size_t value_count,
+uint32_t kifsang_distortion(const uint32_t *values, uint64_t value_count,
                             uint64_t *parts_per_thousand);
 
 /*
@@ -204,9 +203,9 @@ uint32_t kifsang_distortion(const uint32_t *values, size_t value_count,
  * Refusals: 102 record_words is not 122; 1 system not 10 or 12. A refused call leaves the record as
  *   it was.
  * Proved error: none.
- * Definition: freshCallRefusal and freshCallWords, crates/interface/specs/RecordCalls.antt.
+ * Definition: freshCallRefusal and freshCallWords, crates/kifsang/specs/RecordCalls.antt.
  */
-uint32_t kifsang_fresh_record(uint32_t system, uint64_t *record, size_t record_words);
+uint32_t kifsang_fresh_record(uint32_t system, uint64_t *record, uint64_t record_words);
 
 /*
  * Adds the row of one window to a record. The first row becomes the smoothed values; later
@@ -225,10 +224,10 @@ uint32_t kifsang_fresh_record(uint32_t system, uint64_t *record, size_t record_w
  * Proved error: after any list of calls from a fresh record, with rows of one kind worked from
  *   windows in range, each smoothed value is at most 12 units from the exact one (demand3,
  *   crates/accuracy/proofs/Demand3.antt).
- * Definition: addRowCallRefusal and addRowCallWords, crates/interface/specs/RecordCalls.antt.
+ * Definition: addRowCallRefusal and addRowCallWords, crates/kifsang/specs/RecordCalls.antt.
  */
-uint32_t kifsang_add_row(uint64_t *record, size_t record_words, uint32_t system,
-                         const uint32_t *values, size_t value_count);
+uint32_t kifsang_add_row(uint64_t *record, uint64_t record_words, uint32_t system,
+                         const uint32_t *values, uint64_t value_count);
 
 /*
  * Judges an order against its class A limit: the average of its smoothed values against the limit,
@@ -245,9 +244,9 @@ uint32_t kifsang_add_row(uint64_t *record, size_t record_words, uint32_t system,
  * Proved error: after a list of calls as above, within and over hold for the exact average and peak
  *   too; close is given only where a value is at most 12 units from its limit (demand3,
  *   crates/accuracy/proofs/Demand3.antt).
- * Definition: verdictCallRefusal and verdictCallNumber, crates/interface/specs/RecordCalls.antt.
+ * Definition: verdictCallRefusal and verdictCallNumber, crates/kifsang/specs/RecordCalls.antt.
  */
-uint32_t kifsang_verdict(const uint64_t *record, size_t record_words, uint32_t order,
+uint32_t kifsang_verdict(const uint64_t *record, uint64_t record_words, uint32_t order,
                          uint32_t units_per_ampere, uint32_t *verdict);
 
 /*
@@ -262,9 +261,9 @@ uint32_t kifsang_verdict(const uint64_t *record, size_t record_words, uint32_t o
  *   as it was.
  * Proved error: none.
  * Definition: columnReadOf, crates/columns/specs/Calls.antt, and columnCallNumber,
- *   crates/interface/specs/ColumnCalls.antt.
+ *   crates/kifsang/specs/ColumnCalls.antt.
  */
-uint32_t kifsang_read_column(const uint8_t *text, size_t text_length, int64_t *number);
+uint32_t kifsang_read_column(const uint8_t *text, uint64_t text_length, int64_t *number);
 
 /*
  * Writes a number column, of the form that kifsang_read_column reads.
@@ -278,7 +277,7 @@ uint32_t kifsang_read_column(const uint8_t *text, size_t text_length, int64_t *n
  * Proved error: none.
  * Definition: columnWriteFault and columnWritten, crates/columns/specs/Calls.antt.
  */
-uint32_t kifsang_write_column(uint8_t *buffer, size_t buffer_length, int64_t number);
+uint32_t kifsang_write_column(uint8_t *buffer, uint64_t buffer_length, int64_t number);
 
 /*
  * Fills a buffer with the listing of three rows: a header, and a line of 40 bytes for each order of
@@ -298,11 +297,11 @@ uint32_t kifsang_write_column(uint8_t *buffer, size_t buffer_length, int64_t num
  *   the buffer and written as they were.
  * Proved error: none.
  * Definition: listingCallRefusal, listingCallBytes and listingCallCount,
- *   crates/interface/specs/ListingCall.antt.
+ *   crates/kifsang/specs/ListingCall.antt.
  */
-uint32_t kifsang_fill_listing(const uint32_t *group, size_t group_count, const uint32_t *subgroup,
-                              size_t subgroup_count, const uint32_t *smoothed,
-                              size_t smoothed_count, uint8_t *buffer, size_t buffer_length,
+uint32_t kifsang_fill_listing(const uint32_t *group, uint64_t group_count, const uint32_t *subgroup,
+                              uint64_t subgroup_count, const uint32_t *smoothed,
+                              uint64_t smoothed_count, uint8_t *buffer, uint64_t buffer_length,
                               uint64_t *written);
 
 #ifdef __cplusplus

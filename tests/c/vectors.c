@@ -139,7 +139,7 @@ static void on_verdict(void)
     if (number[0] > UINT32_MAX || number[1] > UINT32_MAX)
         return;
     same("verdict", kifsang_verdict(record, KIFSANG_RECORD_WORDS, (uint32_t)number[0], (uint32_t)number[1], &verdict), number[2]);
-    same("outcome", verdict, number[3] == 0 ? 9 : number[3] - 1);
+    same("outcome", verdict, number[3] == 0 ? 9 : number[3]);
     same_words("the record after a verdict", record, expected_record, KIFSANG_RECORD_WORDS);
 }
 

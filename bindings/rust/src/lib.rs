@@ -214,8 +214,8 @@ pub fn verdict(record: &[u64], order: u32, units_per_ampere: u32) -> Result<Verd
         )
     };
     let verdict = match number {
-        0 => Verdict::Within,
-        1 => Verdict::Close,
+        1 => Verdict::Within,
+        2 => Verdict::Close,
         _ => Verdict::Over,
     };
     answered(refusal, verdict)

@@ -1,0 +1,18 @@
+-- `kifsang::column_calls::kifsang_write_column` meets its contract: the number is handed on as it came. Assumes nothing.
+use mir.Syntax.{w64}
+use mir.Facts.{toZ-ofZ}
+use borrow.Author.Needs.{needs}
+use Rattle.kifsang.proofs.column_calls.kifsang_write_column.Statement.{statement}
+use Rattle.kifsang.proofs.column_calls.kifsang_write_column.Tie as tie
+
+write-column-requires : tie.Need-write-column-requires
+write-column-requires c κs = search needs
+
+same-length : tie.Need-same-length
+same-length c = search needs
+
+returns : tie.Need-returns
+returns c = rw (toZ-ofZ {w = w64} (c .before .before .before .before .before .fits .number)) at (c .before .before .write-column .ensures)
+
+pub kifsang-write-column-spec : {M : Type 1} → statement M
+kifsang-write-column-spec = tie.close (tie.spec write-column-requires same-length returns)

@@ -1,0 +1,12 @@
+-- `kifsang::group_calls::is_kind` meets its contract: there are five kinds. Assumes nothing.
+use mathlib.Core.Path.{refl}
+use Rattle.kifsang.specs.Kinds.{kinds, isKind}
+use Rattle.kifsang.proofs.group_calls.is_kind.Statement.{statement}
+use Rattle.kifsang.proofs.group_calls.is_kind.Tie as tie
+
+returns : tie.Need-returns
+unfolding isKind kinds
+returns c = refl
+
+pub is-kind-spec : {M : Type 1} → statement M
+is-kind-spec = tie.close (tie.spec returns)

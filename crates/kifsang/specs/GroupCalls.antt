@@ -1,0 +1,36 @@
+-- What the calls of groups, of a row of groups and of its distortion answer: document 01, "Groups", after the interface's own checks.
+use mathlib.Core.List.{List, [], _∷_}
+use Prim.Native.Nat.{ℕ}
+use Rattle.refusals.specs.Answers.{unlessRefused}
+use Rattle.groups.specs.Group.{orderCount, groupValue, groupRefusal, groupValues}
+use Rattle.groups.specs.Distortion.{distortionOf, distortionAnswer}
+use Rattle.kifsang.specs.Refusals.{ownFirst, wordCountCheck}
+use Rattle.kifsang.specs.Kinds.{kindWith, kindCheck}
+
+-- 101; then the row "group value"
+unfoldable pub groupCallRefusal : ℕ → ℕ → ℕ → List ℕ → ℕ
+groupCallRefusal kind system order lines =
+    ownFirst (kindCheck kind ∷ []) (groupRefusal system order lines)
+
+-- the value at exit; on a refusal what it was
+unfoldable pub groupCallValue : ℕ → ℕ → ℕ → List ℕ → ℕ → ℕ
+groupCallValue kind system order lines value =
+    unlessRefused (groupCallRefusal kind system order lines) (groupValue (kindWith kind) system order lines) value
+
+-- 101; 102; then the row "group value" at order 1, which every order of a row shares
+unfoldable pub rowCallRefusal : ℕ → ℕ → List ℕ → List ℕ → ℕ
+rowCallRefusal kind system lines values =
+    ownFirst (kindCheck kind ∷ wordCountCheck orderCount values ∷ []) (groupRefusal system 1 lines)
+
+unfoldable pub rowCallValues : ℕ → ℕ → List ℕ → List ℕ → List ℕ
+rowCallValues kind system lines values =
+    unlessRefused (rowCallRefusal kind system lines values) (groupValues (kindWith kind) system lines) values
+
+-- 102; then the row "distortion"
+unfoldable pub distortionCallRefusal : List ℕ → ℕ
+distortionCallRefusal values =
+    ownFirst (wordCountCheck orderCount values ∷ []) (distortionAnswer values .refusal)
+
+unfoldable pub distortionCallValue : List ℕ → ℕ → ℕ
+distortionCallValue values partsPerThousand =
+    unlessRefused (distortionCallRefusal values) (distortionOf values) partsPerThousand

@@ -1,0 +1,30 @@
+-- What the call that fills a listing answers: document 01, "Columns and the listing", after the interface's own checks.
+use mathlib.Core.List.{List, [], _∷_}
+use Prim.Native.Nat.{ℕ}
+use lib.ListN.{length}
+use Rattle.refusals.specs.Answers.{unlessRefused}
+use Rattle.groups.specs.Group.{orderCount}
+use Rattle.columns.specs.Listing.{listingText}
+use Rattle.columns.specs.Calls.{listingFault, listingWritten}
+use Rattle.kifsang.specs.Refusals.{ownFirst, wordCountCheck}
+
+module _ (group subgroup smoothed : List ℕ) where
+  -- 102 for each of the three rows; then the row "listing"
+  unfoldable pub listingCallRefusal : List ℕ → ℕ
+  listingCallRefusal buffer =
+      ownFirst
+      (wordCountCheck orderCount group
+      ∷ wordCountCheck orderCount subgroup
+      ∷ wordCountCheck orderCount smoothed
+      ∷ [])
+      (listingFault buffer)
+
+  -- the bytes at exit; on a refusal what they were
+  unfoldable pub listingCallBytes : List ℕ → List ℕ
+  listingCallBytes buffer =
+      unlessRefused (listingCallRefusal buffer) (listingWritten buffer group subgroup smoothed) buffer
+
+  -- the count of the listing's bytes at exit; on a refusal what it was
+  unfoldable pub listingCallCount : List ℕ → ℕ → ℕ
+  listingCallCount buffer written =
+      unlessRefused (listingCallRefusal buffer) (length (listingText group subgroup smoothed)) written

@@ -1,0 +1,58 @@
+-- What the calls of the observation record and of its verdicts answer: document 01, "The observation record" and "Class A verdicts", after the interface's own checks. The record goes in and out as words.
+use mathlib.Core.List.{List, [], _∷_}
+use Prim.Native.Nat.{ℕ}
+use Rattle.refusals.specs.Answers.{unlessRefused}
+use Rattle.groups.specs.Group.{orderCount}
+use Rattle.observation.specs.declared.Row.{Row}
+use Rattle.observation.specs.Calls.{emptyRecord, freshRefusal, withRow, addRowRefusal}
+use Rattle.verdict.specs.declared.Verdict.{Verdict}
+use Rattle.verdict.specs.declared.Verdict.the-variants.{Within, Close, Over}
+use Rattle.verdict.specs.Call.{verdictOf, verdictRefusal}
+use Rattle.kifsang.specs.Refusals.{ownFirst, wordCountCheck}
+use Rattle.kifsang.specs.Words.{recordWords, recordOf, wordsOf}
+
+-- 102; then the row "fresh record"
+unfoldable pub freshCallRefusal : ℕ → List ℕ → ℕ
+freshCallRefusal system words = ownFirst (wordCountCheck recordWords words ∷ []) (freshRefusal system)
+
+-- the words at exit; on a refusal what they were
+unfoldable pub freshCallWords : ℕ → List ℕ → List ℕ
+freshCallWords system words =
+    unlessRefused (freshCallRefusal system words) (wordsOf (emptyRecord system)) words
+
+-- a row as the caller lends it
+abbrev pub lentRow : ℕ → List ℕ → Row
+lentRow system values = record { system = system; values = values }
+
+-- 102 for the record and for the row; then the row "add row"
+unfoldable pub addRowCallRefusal : List ℕ → ℕ → List ℕ → ℕ
+addRowCallRefusal words system values =
+    ownFirst
+    (wordCountCheck recordWords words ∷ wordCountCheck orderCount values ∷ [])
+    (addRowRefusal (recordOf words) (lentRow system values))
+
+unfoldable pub addRowCallWords : List ℕ → ℕ → List ℕ → List ℕ
+addRowCallWords words system values =
+    unlessRefused
+    (addRowCallRefusal words system values)
+    (wordsOf (withRow (recordOf words) (lentRow system values)))
+    words
+
+-- the number of each of document 01's three cases, the caller knows the order; 0 is none, so that a variable that was zeroed and that no call wrote says nothing
+unfoldable pub verdictNumber : Verdict → ℕ
+verdictNumber (Within order) = 1
+verdictNumber (Close order) = 2
+verdictNumber (Over order) = 3
+
+-- 102; then the row "verdict"
+unfoldable pub verdictCallRefusal : List ℕ → ℕ → ℕ → ℕ
+verdictCallRefusal words order unitsPerAmpere =
+    ownFirst (wordCountCheck recordWords words ∷ []) (verdictRefusal (recordOf words) order unitsPerAmpere)
+
+-- the verdict's number at exit; on a refusal what it was
+unfoldable pub verdictCallNumber : List ℕ → ℕ → ℕ → ℕ → ℕ
+verdictCallNumber words order unitsPerAmpere verdict =
+    unlessRefused
+    (verdictCallRefusal words order unitsPerAmpere)
+    (verdictNumber (verdictOf (recordOf words) order unitsPerAmpere))
+    verdict

@@ -1,0 +1,30 @@
+// Number columns, for callers in other languages.
+use refusals::NO_REFUSAL;
+ghost use mathlib.Core.Path.{_≡_};
+ghost use Rattle.columns.specs.Calls.{columnReadOf, columnWriteFault, columnWritten};
+ghost use Rattle.kifsang.specs.ColumnCalls.{columnCallNumber};
+
+// Writes the number of a column of 8 bytes.
+#[no_mangle]
+pub extern "C" fn kifsang_read_column(text: &[u8], number: &mut i64) -> u32
+    ensures { λ r. ⌜ r ≡ columnReadOf (now (text .entry)) .refusal ⌝ }
+    ensures { λ _. ⌜ now (number .exit) ≡ columnCallNumber (now (text .entry)) (now (number .entry)) ⌝ }
+{
+    let column = columns::read_column(text);
+    let refusal = column.refusal;
+    if refusal != NO_REFUSAL {
+        return refusal;
+    }
+    let value = column.value;
+    *number = value;
+    NO_REFUSAL
+}
+
+// Writes the column of a number into 8 bytes.
+#[no_mangle]
+pub extern "C" fn kifsang_write_column(buffer: &mut [u8], number: i64) -> u32
+    ensures { λ r. ⌜ r ≡ columnWriteFault (now (buffer .entry)) number ⌝ }
+    ensures { λ _. ⌜ now (buffer .exit) ≡ columnWritten (now (buffer .entry)) number ⌝ }
+{
+    columns::write_column(buffer, number)
+}

@@ -1,0 +1,79 @@
+// Group values, a row of them and its distortion, for callers in other languages.
+use crate::UNKNOWN_KIND;
+use crate::WRONG_WORD_COUNT;
+use crate::words::hand_over;
+use crate::words::hand_over_values;
+use crate::words::row_values;
+use groups::Kind;
+use groups::ORDER_COUNT;
+ghost use mathlib.Core.Path.{_≡_};
+ghost use Rattle.kifsang.specs.Kinds.{isKind, kindWith};
+ghost use Rattle.kifsang.specs.GroupCalls.{groupCallRefusal, groupCallValue, rowCallRefusal, rowCallValues, distortionCallRefusal, distortionCallValue};
+
+// The kinds have the numbers 0..KIND_COUNT - 1.
+const KIND_COUNT: u32 = 5;
+
+fn is_kind(number: u32) -> bool
+    ensures { λ r. ⌜ r ≡ isKind number ⌝ }
+{
+    number < KIND_COUNT
+}
+
+// The kind with a number.
+fn kind_with(number: u32) -> Kind
+    ensures { λ r. ⌜ r ≡ kindWith number ⌝ }
+{
+    match number {
+        0 => Kind::Component,
+        1 => Kind::HarmonicGroup,
+        2 => Kind::HarmonicSubgroup,
+        3 => Kind::InterharmonicGroup,
+        _ => Kind::InterharmonicCentredSubgroup,
+    }
+}
+
+// Writes the group value of a kind, a system and an order.
+#[no_mangle]
+pub extern "C" fn kifsang_group_value(
+    kind: u32,
+    system: u32,
+    order: u32,
+    lines: &[u64],
+    value: &mut u64,
+) -> u32
+    ensures { λ r. ⌜ r ≡ groupCallRefusal kind system order (now (lines .entry)) ⌝ }
+    ensures { λ _. ⌜ now (value .exit) ≡ groupCallValue kind system order (now (lines .entry)) (now (value .entry)) ⌝ }
+{
+    if !is_kind(kind) {
+        return UNKNOWN_KIND;
+    }
+    let answer = groups::group_value(kind_with(kind), system, order, lines);
+    hand_over(answer, value)
+}
+
+// Writes the 40 values of a kind.
+#[no_mangle]
+pub extern "C" fn kifsang_row(kind: u32, system: u32, lines: &[u64], values: &mut [u32]) -> u32
+    ensures { λ r. ⌜ r ≡ rowCallRefusal kind system (now (lines .entry)) (now (values .entry)) ⌝ }
+    ensures { λ _. ⌜ now (values .exit) ≡ rowCallValues kind system (now (lines .entry)) (now (values .entry)) ⌝ }
+{
+    if !is_kind(kind) {
+        return UNKNOWN_KIND;
+    }
+    if values.len() != ORDER_COUNT {
+        return WRONG_WORD_COUNT;
+    }
+    hand_over_values(groups::group_values(kind_with(kind), system, lines), values)
+}
+
+// Writes the distortion of a row, in parts per thousand.
+#[no_mangle]
+pub extern "C" fn kifsang_distortion(values: &[u32], parts_per_thousand: &mut u64) -> u32
+    ensures { λ r. ⌜ r ≡ distortionCallRefusal (now (values .entry)) ⌝ }
+    ensures { λ _. ⌜ now («parts_per_thousand» .exit) ≡ distortionCallValue (now (values .entry)) (now («parts_per_thousand» .entry)) ⌝ }
+{
+    if values.len() != ORDER_COUNT {
+        return WRONG_WORD_COUNT;
+    }
+    hand_over(groups::distortion(row_values(values)), parts_per_thousand)
+}
