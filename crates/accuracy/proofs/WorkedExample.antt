@@ -38,14 +38,14 @@ unfolding isSystem
 known = refl
 
 module _ (kind : Kind) (window : List ℤ) where
-  workedRow : Row
+  unfoldable pub workedRow : Row
   workedRow = record { system = 10; values = groupValues kind 10 (linesOf window) }
 
   -- of another system, so that it is refused
-  refusedRow : Row
+  unfoldable pub refusedRow : Row
   refusedRow = record { system = 12; values = replicate orderCount 1 }
 
-  workedRows : List Row
+  unfoldable pub workedRows : List Row
   workedRows = workedRow ∷ refusedRow ∷ workedRow ∷ []
 
   module _ (in-range : InRange window) where
@@ -53,7 +53,7 @@ module _ (kind : Kind) (window : List ℤ) where
     unfolding workedRow
     worked-row = record { in-range = in-range; values = refl }
 
-    worked-rows : WorkedList kind 10 workedRows
+    pub worked-rows : WorkedList kind 10 workedRows
     unfolding WorkedList EachAccepted accepts rowChecks isSystem workedRows workedRow refusedRow
     worked-rows = ((window, worked-row), ((window, worked-row), tt))
 

@@ -1,2 +1,3 @@
 -- The theorem over the marked worked numbers.
 pub mod Worked
+pub mod Figures

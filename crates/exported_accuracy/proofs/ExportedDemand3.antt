@@ -1,0 +1,115 @@
+-- Demand 3 for the exported calls: the words follow the list of document 01, and demand 3 holds of the record after it.
+use mathlib.Core.Path.{_≡_, refl, ap, _∙_, subst}
+use mathlib.Core.List.{List, [], _∷_, _++_, append-assoc}
+use mathlib.Core.Option.{none, some}
+use Prim.Native.Nat.{ℕ, _+_, _-_, _<_, _≤_}
+use native.Mathlib.Omega.{arith}
+use lib.ListN.{length, getD, List·getD-append}
+use lib.Seq.{getD-append-add}
+use borrow.Author.Tests.{eq-eqb}
+use Rattle.refusals.specs.Numbers.{noRefusal}
+use Rattle.refusals.specs.Answers.{firstFault}
+use Rattle.groups.specs.declared.Kind.{Kind}
+use Rattle.groups.specs.Group.{orderCount}
+use Rattle.observation.specs.Book.{Book}
+use Rattle.observation.specs.Smoothing.{reported}
+use Rattle.observation.specs.declared.Observation.{Observation}
+use Rattle.observation.specs.Calls.{bookAt}
+use Rattle.verdict.specs.Call.{verdictOf, verdictRefusal}
+use Rattle.accuracy.specs.Claim.{WorkedList, ListHolds, after, reportedBook}
+use Rattle.accuracy.proofs.Demand3.{demand3}
+use Rattle.kifsang.specs.Refusals.{wordCountCheck}
+use Rattle.kifsang.specs.Words.{smoothedPlace, recordWords, recordOf, wordsOf}
+use Rattle.kifsang.specs.RecordCalls.{verdictNumber, verdictCallRefusal, verdictCallNumber}
+use Rattle.kifsang.proofs.RecordWords.{record-of-words}
+use Rattle.kifsang.proofs.VerdictCases.{given-case}
+use Rattle.exported_accuracy.specs.Calls.{Call, Begun, wordsAfter, listAfter}
+use Rattle.exported_accuracy.specs.Claim.{smoothedWord, CalledVerdict, WordsHold, ExportedDemand3Holds}
+use Rattle.exported_accuracy.proofs.WordsFollow.{Follows, FollowsBegun, Whole, list-whole, calls-follow}
+use Rattle.exported_accuracy.proofs.CalledGroups.{own-first-none, called-group, called-row}
+
+-- the word of an order's smoothed value
+smoothed-word :
+    (o : Observation) (order : ℕ) →
+    length (o .smoothed) ≡ orderCount →
+    0 < order →
+    order ≤ orderCount →
+    smoothedWord (wordsOf o) order ≡ getD (o .smoothed) (order - 1) 0
+unfolding wordsOf
+smoothed-word o order whole positive le =
+    let rest = o .smoothed ++ o .sum ++ o .peak in
+    let inside : order - 1 < length (o .smoothed) = omega arith in
+    getD-append-add (o .system ∷ o .windows ∷ []) rest (order - 1) 0 ∙
+    (ap (λ (l : List ℕ). getD l (order - 1) 0) (append-assoc (o .smoothed) (o .sum) (o .peak)) ∙
+    List·getD-append (o .smoothed) (o .sum ++ o .peak) 0 (order - 1) inside)
+
+-- the record after the list
+abbrev recordAt : Kind → Begun → Observation
+recordAt kind list = after kind (list .system) (list .rows)
+
+module _
+    (kind : Kind) (list : Begun) (words : List ℕ)
+    (follows : Follows list words) (worked : WorkedList kind (list .system) (list .rows))
+  where
+    words-held : words ≡ wordsOf (recordAt kind list)
+    unfolding after
+    words-held = follows .held
+
+    parts : Whole (recordAt kind list)
+    unfolding after
+    parts = list-whole list (follows .known)
+
+    record-held : recordOf words ≡ recordAt kind list
+    record-held = ap recordOf words-held ∙ record-of-words (recordAt kind list) (parts .smoothed) (parts .sum) (parts .peak)
+
+    claimed : ListHolds kind (list .system) (list .rows)
+    claimed = demand3 .lists kind (list .system) (follows .known) (list .rows) worked
+
+    smoothed-held :
+        (order : ℕ) →
+        0 < order →
+        order ≤ orderCount →
+        smoothedWord words order ≡ reportedBook kind (list .system) (list .rows) order .smoothed
+    unfolding bookAt
+    smoothed-held order positive le =
+        ap (λ (l : List ℕ). smoothedWord l order) words-held ∙
+        (smoothed-word (recordAt kind list) order (parts .smoothed) positive le ∙
+        ap (λ (book : Book reported). book .smoothed) (claimed .same-books order positive le))
+
+    called-verdict :
+        (order unitsPerAmpere : ℕ) →
+        verdictCallRefusal words order unitsPerAmpere ≡ noRefusal →
+        CalledVerdict kind list words order unitsPerAmpere
+    unfolding verdictCallRefusal verdictCallNumber
+    called-verdict order unitsPerAmpere asked =
+        let o = recordAt kind list in
+        let passed : verdictRefusal o order unitsPerAmpere ≡ noRefusal =
+        own-first-none (firstFault (wordCountCheck recordWords words ∷ [])) _ (rw record-held at asked) in
+        let given = claimed .verdicts order unitsPerAmpere passed in
+        let same = given-case o order unitsPerAmpere (given .verdict) (given .given) .1 in
+        record {
+          verdict = given .verdict;
+          of-order = given .of-order;
+          number = λ before. rw (asked, record-held, same);
+          kept = given .kept;
+        }
+
+    pub words-hold : WordsHold kind list words
+    words-hold =
+        record {
+          held = words-held;
+          claimed = claimed;
+          smoothed-low = λ order positive le book. rw (smoothed-held order positive le) (claimed .smoothed-low order positive le book);
+          smoothed-high = λ order positive le book. rw (smoothed-held order positive le) (claimed .smoothed-high order positive le book);
+          verdicts = called-verdict;
+        }
+
+pub exported-demand3 : ExportedDemand3Holds
+exported-demand3 =
+    record {
+      groups = called-group;
+      rows = called-row;
+      lists = λ kind words whole calls list came worked.
+          let follow = calls-follow calls none words whole in
+          words-hold kind list _ (subst (λ begun. FollowsBegun begun (wordsAfter words calls)) came follow) worked;
+    }

@@ -1,0 +1,181 @@
+-- The words of a record follow the list of document 01 that the calls have come to.
+-- The invariant: before the first fresh record there are 122 words, any; after it they are the words of the record after the list.
+use mathlib.Core.Path.{_≡_, refl, sym, ap, _∙_}
+use mathlib.Core.Bool.{Bool, true, false, cond, not}
+use mathlib.Core.List.{List, [], _∷_, _++_}
+use mathlib.Core.Option.{Option, none, some}
+use Prim.Native.Nat.{ℕ}
+use native.Mathlib.Omega.{arith}
+use lib.Dec.{eqb}
+use lib.ListN.{length, length-append}
+use borrow.Author.Tests.{eq-eqb}
+use Rattle.algebra.proofs.Lists.{length-tabulate}
+use Rattle.refusals.specs.Numbers.{noRefusal, unknownSystem}
+use Rattle.refusals.specs.Answers.{firstFault, unlessRefused}
+use Rattle.groups.specs.Group.{orderCount, isSystem}
+use Rattle.observation.specs.declared.Row.{Row}
+use Rattle.observation.specs.declared.Observation.{Observation}
+use Rattle.observation.specs.Calls.{emptyRecord, freshRefusal, freshAnswer, withRow, addRowRefusal, addRowAnswer}
+use Rattle.observation.specs.CallList.{recordAfter}
+use Rattle.observation.proofs.CallList.{record-after-snoc}
+use Rattle.observation.proofs.SoundRecord.{fresh-of-known}
+use Rattle.kifsang.specs.Refusals.{wrongWordCount, ownFirst}
+use Rattle.kifsang.specs.Words.{recordWords, recordOf, wordsOf}
+use Rattle.kifsang.specs.RecordCalls.{lentRow, freshCallRefusal, freshCallWords, addRowCallRefusal, addRowCallWords}
+use Rattle.kifsang.proofs.RecordWords.{record-of-words}
+use Rattle.exported_accuracy.specs.Calls.{Call, freshRecord, addRow, askVerdict, Begun, wordsAtExit, wordsAfter, withCall, listAtExit, listAfter}
+
+-- ---- records with 40 values in each part
+
+pub record Whole (o : Observation) : Type 0 where
+  pub smoothed : length (o .smoothed) ≡ orderCount
+  pub sum : length (o .sum) ≡ orderCount
+  pub peak : length (o .peak) ≡ orderCount
+
+empty-whole : (system : ℕ) → Whole (emptyRecord system)
+unfolding emptyRecord
+empty-whole system = record { smoothed = refl; sum = refl; peak = refl }
+
+with-row-whole : (o : Observation) (row : Row) → Whole (withRow o row)
+unfolding withRow
+with-row-whole o row =
+    record {
+      smoothed = length-tabulate orderCount _;
+      sum = length-tabulate orderCount _;
+      peak = length-tabulate orderCount _;
+    }
+
+answer-whole : (o : Observation) (row : Row) → Whole o → Whole (addRowAnswer o row .observation)
+unfolding addRowAnswer
+answer-whole o row before = either (eqb (addRowRefusal o row) noRefusal)
+  where
+    either : (worked : Bool) → Whole (cond worked (withRow o row) o)
+    either true = with-row-whole o row
+    either false = before
+
+record-after-whole : (o : Observation) (rows : List Row) → Whole o → Whole (recordAfter o rows)
+unfolding recordAfter
+record-after-whole o [] before = before
+record-after-whole o (row ∷ rows) before = record-after-whole (addRowAnswer o row .observation) rows (answer-whole o row before)
+
+words-length : (o : Observation) → Whole o → length (wordsOf o) ≡ recordWords
+unfolding wordsOf
+words-length o parts = simp length-append (omega arith)
+
+-- ---- the invariant
+
+-- the record after a list
+abbrev recordOfList : Begun → Observation
+recordOfList list = recordAfter (freshAnswer (list .system) .observation) (list .rows)
+
+pub record Follows (list : Begun) (words : List ℕ) : Type 0 where
+  pub known : isSystem (list .system) ≡ true
+  pub held : words ≡ wordsOf (recordOfList list)
+
+abbrev pub FollowsBegun : Option Begun → List ℕ → Type 0
+FollowsBegun none words = length words ≡ recordWords
+FollowsBegun (some list) words = Follows list words
+
+pub list-whole : (list : Begun) → isSystem (list .system) ≡ true → Whole (recordOfList list)
+list-whole list known = record-after-whole _ (list .rows) (rw (fresh-of-known (list .system) known) (empty-whole (list .system)))
+
+follows-length : (begun : Option Begun) (words : List ℕ) → FollowsBegun begun words → length words ≡ recordWords
+follows-length none words whole = whole
+follows-length (some list) words follows = ap length (follows .held) ∙ words-length _ (list-whole list (follows .known))
+
+-- ---- one call
+
+fresh-follows :
+    (system : ℕ) (begun : Option Begun) (words : List ℕ) →
+    FollowsBegun begun words →
+    FollowsBegun (listAtExit begun (freshRecord system)) (freshCallWords system words)
+unfolding listAtExit freshCallWords freshCallRefusal freshRefusal recordAfter
+fresh-follows system begun words follows =
+    rw (eq-eqb (length words) recordWords (follows-length begun words follows)) (go (isSystem system) refl)
+  where
+    go :
+        (known : Bool) →
+        isSystem system ≡ known →
+        FollowsBegun
+        (cond known (some (record { system = system; rows = [] })) begun)
+        (unlessRefused (firstFault ((not known, unknownSystem) ∷ [])) (wordsOf (emptyRecord system)) words)
+    go true e = record { known = e; held = ap wordsOf (sym (fresh-of-known system e)) }
+    go false e = follows
+
+-- the words with a row of 40 values added, or what they were where it is refused
+abbrev rowAdded : List ℕ → Row → List ℕ
+rowAdded words row = unlessRefused (addRowRefusal (recordOf words) row) (wordsOf (withRow (recordOf words) row)) words
+
+-- they are the words of the record that the library answers
+row-words :
+    (words : List ℕ) (row : Row) (o : Observation) →
+    recordOf words ≡ o →
+    words ≡ wordsOf o →
+    rowAdded words row ≡ wordsOf (addRowAnswer o row .observation)
+unfolding addRowAnswer
+row-words words row o same held = rw (same, held) (either (eqb (addRowRefusal o row) noRefusal))
+  where
+    either : (worked : Bool) → cond worked (wordsOf (withRow o row)) (wordsOf o) ≡ wordsOf (cond worked (withRow o row) o)
+    either true = refl
+    either false = refl
+
+row-follows :
+    (begun : Option Begun) (words : List ℕ) (row : Row) →
+    FollowsBegun begun words →
+    FollowsBegun (withCall begun row) (rowAdded words row)
+unfolding withCall
+row-follows none words row whole = either (eqb (addRowRefusal (recordOf words) row) noRefusal)
+  where
+    either : (worked : Bool) → length (cond worked (wordsOf (withRow (recordOf words) row)) words) ≡ recordWords
+    either true = words-length _ (with-row-whole (recordOf words) row)
+    either false = whole
+row-follows (some list) words row follows =
+    let o = recordOfList list in
+    let parts = list-whole list (follows .known) in
+    let same : recordOf words ≡ o = rw (follows .held) (record-of-words o (parts .smoothed) (parts .sum) (parts .peak)) in
+    record {
+      known = follows .known;
+      held = row-words words row o same (follows .held) ∙ ap wordsOf (sym (record-after-snoc _ (list .rows) row));
+    }
+
+add-row-follows :
+    (system : ℕ) (values : List ℕ) (begun : Option Begun) (words : List ℕ) →
+    FollowsBegun begun words →
+    FollowsBegun (listAtExit begun (addRow system values)) (addRowCallWords words system values)
+unfolding listAtExit addRowCallWords addRowCallRefusal
+add-row-follows system values begun words follows =
+    rw (eq-eqb (length words) recordWords (follows-length begun words follows)) (go (eqb (length values) orderCount))
+  where
+    row : Row
+    row = lentRow system values
+
+    refusal : ℕ
+    refusal = addRowRefusal (recordOf words) row
+
+    go :
+        (forty : Bool) →
+        FollowsBegun
+        (cond forty (withCall begun row) begun)
+        (unlessRefused (ownFirst ((not forty, wrongWordCount) ∷ []) refusal) (wordsOf (withRow (recordOf words) row)) words)
+    go true = row-follows begun words row follows
+    go false = follows
+
+call-follows :
+    (call : Call) (begun : Option Begun) (words : List ℕ) →
+    FollowsBegun begun words →
+    FollowsBegun (listAtExit begun call) (wordsAtExit words call)
+unfolding wordsAtExit listAtExit
+call-follows (freshRecord system) begun words follows = fresh-follows system begun words follows
+call-follows (addRow system values) begun words follows = add-row-follows system values begun words follows
+call-follows (askVerdict order unitsPerAmpere) begun words follows = follows
+
+-- ---- any calls
+
+pub calls-follow :
+    (calls : List Call) (begun : Option Begun) (words : List ℕ) →
+    FollowsBegun begun words →
+    FollowsBegun (listAfter begun calls) (wordsAfter words calls)
+unfolding listAfter wordsAfter
+calls-follow [] begun words follows = follows
+calls-follow (call ∷ calls) begun words follows =
+    calls-follow calls (listAtExit begun call) (wordsAtExit words call) (call-follows call begun words follows)

@@ -1,0 +1,51 @@
+-- The exported calls on a record's words, as a caller makes them one after the other, and the list of document 01 ("The list") that they go on with.
+use mathlib.Core.Bool.{cond}
+use mathlib.Core.List.{List, [], _∷_, _++_}
+use mathlib.Core.Option.{Option, none, some}
+use Prim.Native.Nat.{ℕ}
+use lib.Dec.{eqb}
+use lib.ListN.{length}
+use Rattle.groups.specs.Group.{orderCount, isSystem}
+use Rattle.observation.specs.declared.Row.{Row}
+use Rattle.kifsang.specs.RecordCalls.{lentRow, freshCallWords, addRowCallWords}
+
+pub data Call : Type 0 where
+  -- kifsang_fresh_record with a system
+  freshRecord : ℕ → Call
+  -- kifsang_add_row with a system and values
+  addRow : ℕ → List ℕ → Call
+  -- kifsang_verdict with an order and units per ampere
+  askVerdict : ℕ → ℕ → Call
+
+-- the words that a call leaves, by its contract; a verdict only reads them
+unfoldable pub wordsAtExit : List ℕ → Call → List ℕ
+wordsAtExit words (freshRecord system) = freshCallWords system words
+wordsAtExit words (addRow system values) = addRowCallWords words system values
+wordsAtExit words (askVerdict order unitsPerAmpere) = words
+
+-- each call gets the words that the call before left
+unfoldable pub wordsAfter : List ℕ → List Call → List ℕ
+wordsAfter words [] = words
+wordsAfter words (call ∷ calls) = wordsAfter (wordsAtExit words call) calls
+
+-- a list of document 01: the system of its fresh record, and the rows that add row was called with since
+pub record Begun : Type 0 where
+  pub system : ℕ
+  pub rows : List Row
+
+-- one add row call more; before the first fresh record there is no list
+unfoldable pub withCall : Option Begun → Row → Option Begun
+withCall none row = none
+withCall (some list) row = some (record { system = list .system; rows = list .rows ++ (row ∷ []) })
+
+-- "A fresh record begins another list": one that is not refused. Values that are not 40 are no row, and the call is refused before it looks at the record.
+unfoldable pub listAtExit : Option Begun → Call → Option Begun
+listAtExit begun (freshRecord system) = cond (isSystem system) (some (record { system = system; rows = [] })) begun
+listAtExit begun (addRow system values) =
+    cond (eqb (length values) orderCount) (withCall begun (lentRow system values)) begun
+listAtExit begun (askVerdict order unitsPerAmpere) = begun
+
+-- the list that the calls have come to; none before the first fresh record
+unfoldable pub listAfter : Option Begun → List Call → Option Begun
+listAfter begun [] = begun
+listAfter begun (call ∷ calls) = listAfter (listAtExit begun call) calls

@@ -1,0 +1,97 @@
+-- Demand 3 of what the exported calls leave in the caller's buffers (document 01, "Groups", "The list" and "Class A verdicts").
+use mathlib.Core.Path.{_≡_}
+use mathlib.Core.List.{List}
+use mathlib.Core.Option.{none, some}
+use Prim.Native.Nat.{ℕ, _+_, _-_, _<_, _≤_}
+use lib.IntN.{ℤ}
+use lib.ListN.{length, getD}
+use Rattle.algebra.specs.Fraction.{whole, square, _+ᶠ_, _≤ᶠ_}
+use Rattle.refusals.specs.Numbers.{noRefusal}
+use Rattle.spectrum.specs.Line.{windowAt}
+use Rattle.spectrum.specs.Spectrum.{spectrumRefusal, spectrumBuffer}
+use Rattle.groups.specs.declared.Kind.{Kind}
+use Rattle.groups.specs.Group.{orderCount}
+use Rattle.groups.specs.Exact.{exactGroup}
+use Rattle.verdict.specs.declared.Verdict.{Verdict}
+use Rattle.verdict.specs.Tests.{band}
+use Rattle.verdict.specs.Call.{orderNumber}
+use Rattle.accuracy.specs.Distance.{groupMargin}
+use Rattle.accuracy.specs.Claim.{Worked, WorkedList, LBook, UBook, after, state, Keeps, ListHolds}
+use Rattle.kifsang.specs.Kinds.{kindWith}
+use Rattle.kifsang.specs.GroupCalls.{groupCallRefusal, groupCallValue, rowCallRefusal, rowCallValues}
+use Rattle.kifsang.specs.Words.{smoothedPlace, recordWords, wordsOf}
+use Rattle.kifsang.specs.RecordCalls.{lentRow, verdictNumber, verdictCallRefusal, verdictCallNumber}
+use Rattle.exported_accuracy.specs.Calls.{Call, Begun, wordsAfter, listAfter}
+
+-- the word of an order's smoothed value
+abbrev pub smoothedWord : List ℕ → ℕ → ℕ
+smoothedWord words order = getD words (smoothedPlace + (order - 1)) 0
+
+-- a verdict call that is not refused leaves the number of a verdict of the order that keeps its claim, whatever the number was before
+pub record CalledVerdict (kind : Kind) (list : Begun) (words : List ℕ) (order unitsPerAmpere : ℕ) : Type 0 where
+  pub verdict : Verdict
+  pub of-order : orderNumber verdict ≡ order
+  pub number : (before : ℕ) → verdictCallNumber words order unitsPerAmpere before ≡ verdictNumber verdict
+  pub kept : Keeps kind (list .system) (list .rows) order unitsPerAmpere verdict
+
+-- what some words hold after a list of document 01
+pub record WordsHold (kind : Kind) (list : Begun) (words : List ℕ) : Type 0 where
+  -- they are the words of the record after the list, of which demand 3 is claimed
+  pub held : words ≡ wordsOf (after kind (list .system) (list .rows))
+  pub claimed : ListHolds kind (list .system) (list .rows)
+  -- smoothed is at least the smoothing of the l less 12, and at most that of the u plus 12
+  pub smoothed-low :
+      (order : ℕ) →
+      0 < order →
+      order ≤ orderCount →
+      (book : LBook kind (list .system) (list .rows) order) →
+      state kind (list .system) (list .rows) book .smoothed ≤ᶠ whole (smoothedWord words order + band)
+  pub smoothed-high :
+      (order : ℕ) →
+      0 < order →
+      order ≤ orderCount →
+      (book : UBook kind (list .system) (list .rows) order) →
+      whole (smoothedWord words order) ≤ᶠ state kind (list .system) (list .rows) book .smoothed +ᶠ whole band
+  pub verdicts :
+      (order unitsPerAmpere : ℕ) →
+      verdictCallRefusal words order unitsPerAmpere ≡ noRefusal →
+      CalledVerdict kind list words order unitsPerAmpere
+
+-- the group value that is left for the lines of a window, next to the exact group
+pub record CalledGroupNear (kind : Kind) (system order : ℕ) (window : List ℤ) (value : ℕ) : Type 0 where
+  pub not-far-below : square (whole (value - groupMargin)) ≤ᶠ exactGroup kind system order window
+  pub not-far-above : exactGroup kind system order window ≤ᶠ square (whole (value + groupMargin))
+
+-- kifsang_spectrum of a recording, and then a call for its lines, neither refused
+module _ (recording : List ℤ) (start : ℕ) (buffer : List ℕ) (number system : ℕ) where
+  abbrev pub CalledGroup : ℕ → ℕ → Type 0
+  CalledGroup order before =
+      spectrumRefusal recording start buffer ≡ noRefusal →
+      groupCallRefusal number system order (spectrumBuffer recording start buffer) ≡ noRefusal →
+      CalledGroupNear (kindWith number) system order (windowAt recording start)
+      (groupCallValue number system order (spectrumBuffer recording start buffer) before)
+
+  abbrev pub CalledRow : List ℕ → Type 0
+  CalledRow before =
+      spectrumRefusal recording start buffer ≡ noRefusal →
+      rowCallRefusal number system (spectrumBuffer recording start buffer) before ≡ noRefusal →
+      Worked
+      (kindWith number)
+      (lentRow system (rowCallValues number system (spectrumBuffer recording start buffer) before))
+      (windowAt recording start)
+
+-- Demand 3 for the exported calls: the distance of a group value; a row that is worked from samples; and for any calls on any 122 words, refused ones included, the claim about the list that they have come to, where its accepted rows are worked from samples of one kind.
+pub record ExportedDemand3Holds : Type 0 where
+  pub groups :
+      (recording : List ℤ) (start : ℕ) (buffer : List ℕ) (number system order before : ℕ) →
+      CalledGroup recording start buffer number system order before
+  pub rows :
+      (recording : List ℤ) (start : ℕ) (buffer : List ℕ) (number system : ℕ) (before : List ℕ) →
+      CalledRow recording start buffer number system before
+  pub lists :
+      (kind : Kind) (words : List ℕ) →
+      length words ≡ recordWords →
+      (calls : List Call) (list : Begun) →
+      listAfter none calls ≡ some list →
+      WorkedList kind (list .system) (list .rows) →
+      WordsHold kind list (wordsAfter words calls)

@@ -1,0 +1,1 @@
+// Demand 3 for the exported calls over words; no code.

@@ -1,0 +1,157 @@
+-- The margins of demand 3 in figures, at each system: 7 units for a group value, 12 for a smoothed one, and what the three verdicts of order 3 say against its limit of 2,300 mA. The claims name their numbers, and a weaker one would be proved as well; here it is refused.
+use mathlib.Core.Path.{_≡_, refl, ap}
+use mathlib.Core.Bool.{true}
+use mathlib.Core.List.{List}
+use mathlib.Core.Logic.{_⊎_, ⊎-map}
+use mathlib.Core.Option.{none, some}
+use Prim.Native.Nat.{ℕ, _+_, _-_, _*_, _<_, _≤_, max}
+use native.Mathlib.Omega.{arith}
+use lib.IntN.{ℤ}
+use lib.ListN.{length, getD}
+use Rattle.algebra.specs.Fraction.{Fraction, whole, scale, divide, square, _+ᶠ_}
+use Rattle.spectrum.specs.Line.{linesOf}
+use Rattle.groups.specs.declared.Kind.{Kind}
+use Rattle.groups.specs.Group.{isSystem, groupAnswer}
+use Rattle.groups.specs.Exact.{exactGroup}
+use Rattle.observation.specs.declared.Row.{Row}
+use Rattle.observation.specs.Book.{Book}
+use Rattle.observation.specs.Smoothing.{reported}
+use Rattle.observation.specs.Calls.{bookAt}
+use Rattle.verdict.specs.declared.Verdict.{Verdict}
+use Rattle.verdict.specs.declared.Verdict.the-variants.{Within, Close, Over}
+use Rattle.verdict.specs.Limit.{ownFigures, figureIn, limitOf, overOrder}
+use Rattle.verdict.specs.Tests.{limitInUnits, peakLimitInUnits}
+use Rattle.accuracy.specs.Distance.{InRange, GroupsNear}
+use Rattle.accuracy.specs.Claim.{WorkedList, LBook, UBook, after, reportedBook, state, Keeps}
+use Rattle.accuracy.proofs.Demand3.{demand3}
+use Rattle.kifsang.specs.RecordCalls.{verdictNumber, verdictCallRefusal, verdictCallNumber}
+use Rattle.exported_accuracy.specs.Calls.{Call, wordsAfter, listAfter}
+use Rattle.exported_accuracy.specs.Claim.{WordsHold}
+use Rattle.exported_accuracy.proofs.ExportedDemand3.{exported-demand3}
+
+-- at 50 Hz and at 60 Hz
+abbrev Both : (ℕ → Type 0) → Type 0
+Both holdsAt = holdsAt 10 × holdsAt 12
+
+-- ---- 7 units
+
+-- R less 7 (not below 0), squared, is at most G, and G is at most R plus 7, squared
+abbrev Within7 : Kind → ℕ → ℕ → List ℤ → Type 0
+Within7 kind system order window =
+    let r = groupAnswer kind system order (linesOf window) .value in
+    let g = exactGroup kind system order window in
+    ((r - 7) * (r - 7) * g .den ≤ g .num) × (g .num ≤ (r + 7) * (r + 7) * g .den)
+
+within-7 :
+    (kind : Kind) (order : ℕ) (window : List ℤ) →
+    1 ≤ order →
+    order ≤ 40 →
+    InRange window →
+    Both (λ system. Within7 kind system order window)
+unfolding GroupsNear isSystem whole square
+within-7 kind order window least most in-range = (at 10 refl, at 12 refl)
+  where
+    at : (system : ℕ) → isSystem system ≡ true → Within7 kind system order window
+    at system known =
+        let near = demand3 .groups kind system order window known least most in-range in
+        (omega (arith, near .not-far-below), omega (arith, near .not-far-above))
+
+-- ---- 12 units
+
+-- the l book's smoothed fraction is at most s + 12, and s is at most the u book's plus 12
+abbrev Within12 : Fraction → Fraction → ℕ → Type 0
+Within12 l u s = (l .num ≤ (s + 12) * l .den) × (s * u .den ≤ u .num + 12 * u .den)
+
+-- after any list of calls of the library
+within-12 :
+    (kind : Kind) (rows : List Row) (order : ℕ) →
+    1 ≤ order →
+    order ≤ 40 →
+    Both (λ system. WorkedList kind system rows → (l : LBook kind system rows order) (u : UBook kind system rows order) → Within12 (state kind system rows l .smoothed) (state kind system rows u .smoothed) (getD (after kind system rows .smoothed) (order - 1) 0))
+unfolding isSystem whole _+ᶠ_ bookAt
+within-12 kind rows order least most = (at 10 refl, at 12 refl)
+  where
+    at :
+        (system : ℕ) →
+        isSystem system ≡ true →
+        WorkedList kind system rows →
+        (l : LBook kind system rows order) (u : UBook kind system rows order) →
+        Within12 (state kind system rows l .smoothed) (state kind system rows u .smoothed) (getD (after kind system rows .smoothed) (order - 1) 0)
+    at system known worked l u =
+        let holds = demand3 .lists kind system known rows worked in
+        let held = ap (λ (book : Book reported). book .smoothed) (holds .same-books order least most) in
+        rw held (omega (arith, holds .smoothed-low order least most l), omega (arith, holds .smoothed-high order least most u))
+
+-- ---- the verdict of order 3: its limit is 2,300 mA, so 2300 × K / 1000 units, and 150 % of it 6900 × K / 2000
+
+module _ (kind : Kind) (system : ℕ) (rows : List Row) (k : ℕ) where
+  -- 1: every l book's average is at most the limit, and its peak at most 150 % of it
+  abbrev Outcome1 : Type 0
+  Outcome1 =
+      (l : LBook kind system rows 3) →
+      let book = state kind system rows l in
+      (book .sum .num * 1000 ≤ 2300 * k * (max (book .count) 1 * book .sum .den)) ×
+      (book .peak .num * 2000 ≤ 6900 * k * book .peak .den)
+
+  -- 2: the reported average less 12 is at most the limit and with 12 more above it, or so the reported peak with 150 % of it
+  abbrev Outcome2 : Type 0
+  Outcome2 =
+      let book = reportedBook kind system rows 3 in
+      let n = max (book .count) 1 in
+      ((book .sum * 1000 ≤ 2300 * k * n + 12000 * n) × (2300 * k * n < book .sum * 1000 + 12000 * n)) ⊎
+      ((book .peak * 2000 ≤ 6900 * k + 24000) × (6900 * k < book .peak * 2000 + 24000))
+
+  -- 3: every u book's average is above the limit, or every u book's peak above 150 % of it
+  abbrev Outcome3 : Type 0
+  Outcome3 =
+      ((u : UBook kind system rows 3) →
+      let book = state kind system rows u in 2300 * k * (max (book .count) 1 * book .sum .den) < book .sum .num * 1000) ⊎
+      ((u : UBook kind system rows 3) →
+      let book = state kind system rows u in 6900 * k * book .peak .den < book .peak .num * 2000)
+
+  abbrev Outcome : ℕ → Type 0
+  Outcome number = (number ≡ 1 → Outcome1) × (number ≡ 2 → Outcome2) × (number ≡ 3 → Outcome3)
+
+  outcome-of : (verdict : Verdict) → Keeps kind system rows 3 k verdict → Outcome (verdictNumber verdict)
+  unfolding Keeps verdictNumber limitInUnits peakLimitInUnits limitOf figureIn ownFigures overOrder whole scale divide _+ᶠ_
+  outcome-of (Within h) keeps = (λ e l. (omega (arith, keeps l .0), omega (arith, keeps l .1)), λ e. absurd (omega arith), λ e. absurd (omega arith))
+  outcome-of (Close h) keeps = (
+    λ e. absurd (omega arith),
+    λ e. ⊎-map (λ t. (omega (arith, t .not-over), omega (arith, t .not-within))) (λ t. (omega (arith, t .not-over), omega (arith, t .not-within))) keeps,
+    λ e. absurd (omega arith),
+  )
+  outcome-of (Over h) keeps = (
+    λ e. absurd (omega arith),
+    λ e. absurd (omega arith),
+    λ e. ⊎-map (λ every u. omega (arith, every u)) (λ every u. omega (arith, every u)) keeps,
+  )
+
+-- ---- the words after any exported calls
+
+module _
+    (kind : Kind) (words : List ℕ) (calls : List Call) (system : ℕ) (rows : List Row)
+    (whole-record : length words ≡ 122)
+    (came : listAfter none calls ≡ some (record { system = system; rows = rows }))
+    (worked : WorkedList kind system rows)
+  where
+    holds : WordsHold kind (record { system = system; rows = rows }) (wordsAfter words calls)
+    holds = exported-demand3 .lists kind words whole-record calls _ came worked
+
+    words-within-12 :
+        (order : ℕ) →
+        1 ≤ order →
+        order ≤ 40 →
+        (l : LBook kind system rows order) (u : UBook kind system rows order) →
+        Within12 (state kind system rows l .smoothed) (state kind system rows u .smoothed) (getD (wordsAfter words calls) (2 + (order - 1)) 0)
+    unfolding whole _+ᶠ_
+    words-within-12 order least most l u =
+        (omega (arith, holds .smoothed-low order least most l), omega (arith, holds .smoothed-high order least most u))
+
+    -- what the number of a verdict of order 3 tells, whatever it was before the call
+    words-outcome :
+        (k before : ℕ) →
+        verdictCallRefusal (wordsAfter words calls) 3 k ≡ 0 →
+        Outcome kind system rows k (verdictCallNumber (wordsAfter words calls) 3 k before)
+    words-outcome k before asked =
+        let given = holds .verdicts 3 k asked in
+        rw (given .number before) (outcome-of kind system rows k (given .verdict) (given .kept))
