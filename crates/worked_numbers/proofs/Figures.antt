@@ -2,15 +2,17 @@
 use mathlib.Core.Path.{_≡_, refl, ap}
 use mathlib.Core.Bool.{true}
 use mathlib.Core.List.{List}
-use mathlib.Core.Logic.{_⊎_, ⊎-map}
+use mathlib.Core.Logic.{_⊎_, inl, inr, ⊎-map}
 use mathlib.Core.Option.{none, some}
 use Prim.Native.Nat.{ℕ, _+_, _-_, _*_, _<_, _≤_, max}
 use native.Mathlib.Omega.{arith}
 use lib.IntN.{ℤ}
 use lib.ListN.{length, getD}
 use Rattle.algebra.specs.Fraction.{Fraction, whole, scale, divide, square, _+ᶠ_}
-use Rattle.spectrum.specs.Line.{linesOf}
+use Rattle.spectrum.specs.Line.{windowAt, linesOf}
+use Rattle.spectrum.specs.Spectrum.{spectrumRefusal, spectrumBuffer}
 use Rattle.groups.specs.declared.Kind.{Kind}
+use Rattle.groups.specs.declared.Kind.the-variants.{HarmonicGroup}
 use Rattle.groups.specs.Group.{isSystem, groupAnswer}
 use Rattle.groups.specs.Exact.{exactGroup}
 use Rattle.observation.specs.declared.Row.{Row}
@@ -24,6 +26,8 @@ use Rattle.verdict.specs.Tests.{limitInUnits, peakLimitInUnits}
 use Rattle.accuracy.specs.Distance.{InRange, GroupsNear}
 use Rattle.accuracy.specs.Claim.{WorkedList, LBook, UBook, after, reportedBook, state, Keeps}
 use Rattle.accuracy.proofs.Demand3.{demand3}
+use Rattle.kifsang.specs.Kinds.{kinds, kindWith}
+use Rattle.kifsang.specs.GroupCalls.{groupCallRefusal, groupCallValue}
 use Rattle.kifsang.specs.RecordCalls.{verdictNumber, verdictCallRefusal, verdictCallNumber}
 use Rattle.exported_accuracy.specs.Calls.{Call, wordsAfter, listAfter}
 use Rattle.exported_accuracy.specs.Claim.{WordsHold}
@@ -36,47 +40,59 @@ Both holdsAt = holdsAt 10 × holdsAt 12
 -- ---- 7 units
 
 -- R less 7 (not below 0), squared, is at most G, and G is at most R plus 7, squared
-abbrev Within7 : Kind → ℕ → ℕ → List ℤ → Type 0
-Within7 kind system order window =
-    let r = groupAnswer kind system order (linesOf window) .value in
-    let g = exactGroup kind system order window in
-    ((r - 7) * (r - 7) * g .den ≤ g .num) × (g .num ≤ (r + 7) * (r + 7) * g .den)
+abbrev Within7 : ℕ → Fraction → Type 0
+Within7 r g = ((r - 7) * (r - 7) * g .den ≤ g .num) × (g .num ≤ (r + 7) * (r + 7) * g .den)
 
 within-7 :
     (kind : Kind) (order : ℕ) (window : List ℤ) →
     1 ≤ order →
     order ≤ 40 →
     InRange window →
-    Both (λ system. Within7 kind system order window)
+    Both (λ system. Within7 (groupAnswer kind system order (linesOf window) .value) (exactGroup kind system order window))
 unfolding GroupsNear isSystem whole square
 within-7 kind order window least most in-range = (at 10 refl, at 12 refl)
-  where
-    at : (system : ℕ) → isSystem system ≡ true → Within7 kind system order window
-    at system known =
-        let near = demand3 .groups kind system order window known least most in-range in
-        (omega (arith, near .not-far-below), omega (arith, near .not-far-above))
-
--- ---- 12 units
-
--- the l book's smoothed fraction is at most s + 12, and s is at most the u book's plus 12
-abbrev Within12 : Fraction → Fraction → ℕ → Type 0
-Within12 l u s = (l .num ≤ (s + 12) * l .den) × (s * u .den ≤ u .num + 12 * u .den)
-
--- after any list of calls of the library
-within-12 :
-    (kind : Kind) (rows : List Row) (order : ℕ) →
-    1 ≤ order →
-    order ≤ 40 →
-    Both (λ system. WorkedList kind system rows → (l : LBook kind system rows order) (u : UBook kind system rows order) → Within12 (state kind system rows l .smoothed) (state kind system rows u .smoothed) (getD (after kind system rows .smoothed) (order - 1) 0))
-unfolding isSystem whole _+ᶠ_ bookAt
-within-12 kind rows order least most = (at 10 refl, at 12 refl)
   where
     at :
         (system : ℕ) →
         isSystem system ≡ true →
-        WorkedList kind system rows →
-        (l : LBook kind system rows order) (u : UBook kind system rows order) →
-        Within12 (state kind system rows l .smoothed) (state kind system rows u .smoothed) (getD (after kind system rows .smoothed) (order - 1) 0)
+        Within7 (groupAnswer kind system order (linesOf window) .value) (exactGroup kind system order window)
+    at system known =
+        let near = demand3 .groups kind system order window known least most in-range in
+        (omega (arith, near .not-far-below), omega (arith, near .not-far-above))
+
+-- the harmonic group (kind 1) that the exported calls leave for a recording, neither refused
+called-within-7 :
+    (recording : List ℤ) (start : ℕ) (buffer : List ℕ) (system order before : ℕ) →
+    spectrumRefusal recording start buffer ≡ 0 →
+    groupCallRefusal 1 system order (spectrumBuffer recording start buffer) ≡ 0 →
+    Within7
+    (groupCallValue 1 system order (spectrumBuffer recording start buffer) before)
+    (exactGroup HarmonicGroup system order (windowAt recording start))
+unfolding whole square kindWith kinds
+called-within-7 recording start buffer system order before taken asked =
+    let near = exported-demand3 .groups recording start buffer 1 system order before taken asked in
+    (omega (arith, near .not-far-below), omega (arith, near .not-far-above))
+
+-- ---- 12 units
+
+-- every l book's smoothed fraction is at most s + 12, and s is at most every u book's plus 12
+abbrev Within12 : Kind → ℕ → List Row → ℕ → ℕ → Type 0
+Within12 kind system rows order s =
+    (l : LBook kind system rows order) (u : UBook kind system rows order) →
+    let low = state kind system rows l .smoothed in
+    let high = state kind system rows u .smoothed in
+    (low .num ≤ (s + 12) * low .den) × (s * high .den ≤ high .num + 12 * high .den)
+
+-- after any list of calls of the library
+abbrev ListWithin12 : Kind → List Row → ℕ → ℕ → Type 0
+ListWithin12 kind rows order system =
+    WorkedList kind system rows → Within12 kind system rows order (getD (after kind system rows .smoothed) (order - 1) 0)
+
+within-12 : (kind : Kind) (rows : List Row) (order : ℕ) → 1 ≤ order → order ≤ 40 → Both (ListWithin12 kind rows order)
+unfolding isSystem whole _+ᶠ_ bookAt
+within-12 kind rows order least most = (at 10 refl, at 12 refl)
+  where
+    at : (system : ℕ) → isSystem system ≡ true → ListWithin12 kind rows order system
     at system known worked l u =
         let holds = demand3 .lists kind system known rows worked in
         let held = ap (λ (book : Book reported). book .smoothed) (holds .same-books order least most) in
@@ -109,22 +125,22 @@ module _ (kind : Kind) (system : ℕ) (rows : List Row) (k : ℕ) where
       ((u : UBook kind system rows 3) →
       let book = state kind system rows u in 6900 * k * book .peak .den < book .peak .num * 2000)
 
+  -- the number is one of the three, and tells what stands with it
   abbrev Outcome : ℕ → Type 0
-  Outcome number = (number ≡ 1 → Outcome1) × (number ≡ 2 → Outcome2) × (number ≡ 3 → Outcome3)
+  Outcome number = ((number ≡ 1) × Outcome1) ⊎ (((number ≡ 2) × Outcome2) ⊎ ((number ≡ 3) × Outcome3))
 
   outcome-of : (verdict : Verdict) → Keeps kind system rows 3 k verdict → Outcome (verdictNumber verdict)
   unfolding Keeps verdictNumber limitInUnits peakLimitInUnits limitOf figureIn ownFigures overOrder whole scale divide _+ᶠ_
-  outcome-of (Within h) keeps = (λ e l. (omega (arith, keeps l .0), omega (arith, keeps l .1)), λ e. absurd (omega arith), λ e. absurd (omega arith))
-  outcome-of (Close h) keeps = (
-    λ e. absurd (omega arith),
-    λ e. ⊎-map (λ t. (omega (arith, t .not-over), omega (arith, t .not-within))) (λ t. (omega (arith, t .not-over), omega (arith, t .not-within))) keeps,
-    λ e. absurd (omega arith),
-  )
-  outcome-of (Over h) keeps = (
-    λ e. absurd (omega arith),
-    λ e. absurd (omega arith),
-    λ e. ⊎-map (λ every u. omega (arith, every u)) (λ every u. omega (arith, every u)) keeps,
-  )
+  outcome-of (Within h) keeps = inl (refl, λ l. (omega (arith, keeps l .0), omega (arith, keeps l .1)))
+  outcome-of (Close h) keeps =
+      let touches : Outcome2 =
+      ⊎-map
+      (λ average. (omega (arith, average .not-over), omega (arith, average .not-within)))
+      (λ peak. (omega (arith, peak .not-over), omega (arith, peak .not-within)))
+      keeps in
+      inr (inl (refl, touches))
+  outcome-of (Over h) keeps =
+      inr (inr (refl, ⊎-map (λ every u. omega (arith, every u)) (λ every u. omega (arith, every u)) keeps))
 
 -- ---- the words after any exported calls
 
@@ -138,11 +154,7 @@ module _
     holds = exported-demand3 .lists kind words whole-record calls _ came worked
 
     words-within-12 :
-        (order : ℕ) →
-        1 ≤ order →
-        order ≤ 40 →
-        (l : LBook kind system rows order) (u : UBook kind system rows order) →
-        Within12 (state kind system rows l .smoothed) (state kind system rows u .smoothed) (getD (wordsAfter words calls) (2 + (order - 1)) 0)
+        (order : ℕ) → 1 ≤ order → order ≤ 40 → Within12 kind system rows order (getD (wordsAfter words calls) (2 + (order - 1)) 0)
     unfolding whole _+ᶠ_
     words-within-12 order least most l u =
         (omega (arith, holds .smoothed-low order least most l), omega (arith, holds .smoothed-high order least most u))
