@@ -1,3 +1,4 @@
 -- The theorem over the marked worked numbers.
 pub mod Worked
 pub mod Figures
+pub mod ExportedCalls

@@ -1,0 +1,214 @@
+-- The exported calls in figures: the interface's own refusals, each two neighbouring checks in their order, and what the caller's numbers and words hold after. Each call has a table of rows and one computed theorem over it; a lent number is 77 before the call, a lent word 7.
+use mathlib.Core.Path.{_≡_, refl}
+use mathlib.Core.List.{List, [], _∷_, _++_, map}
+use Prim.Native.Nat.{ℕ, _+_, _*_, _^_}
+use Prim.Native.String.{String}
+use lib.IntN.{ℤ, pos, negsuc}
+use lib.ListN.{replicate}
+use Rattle.algebra.specs.Largest.{largest}
+use Rattle.algebra.specs.Lists.{tabulate, anyOf}
+use Rattle.algebra.specs.Weighted.{sumOver}
+use Rattle.algebra.specs.Rounding.{nearest}
+use Rattle.algebra.specs.Fraction.{whole, scale, divide, _+ᶠ_}
+use Rattle.integers.specs.Root.{rootOf}
+use Rattle.groups.specs.Weights.{wholeLines, weightsOf, weightedSum}
+use Rattle.groups.specs.Group.{isSystem, isOrder, groupValue, groupRefusal, groupAnswer, groupValues}
+use Rattle.groups.specs.Distortion.{sumOfSquares, distortionOf, distortionAnswer}
+use Rattle.observation.specs.Soundness.{noneAbove, allZero, isSound}
+use Rattle.observation.specs.Book.{smoothedNext, bookStep}
+use Rattle.observation.specs.Smoothing.{smoothedValue}
+use Rattle.observation.specs.Calls.{emptyRecord, freshRefusal, bookAt, nextBook, withRow, rowChecks, addRowRefusal}
+use Rattle.verdict.specs.Limit.{ownFigures, figureIn, limitOf, overOrder}
+use Rattle.verdict.specs.Tests.{limitInUnits, peakLimitInUnits, isWithin, isOver}
+use Rattle.verdict.specs.Call.{averageOf, peakOf, combined, verdictOf, verdictRefusal}
+use Rattle.columns.specs.Text.{bytesOf, rightJustified}
+use Rattle.columns.specs.Column.{isDigit, areDigits, isWhole, placeValue, wholeNumber, negativeNumber, signedNumber, afterBlanks, columnNumber, decimalWithin, decimalText, numberText, columnText}
+use Rattle.columns.specs.Listing.{header, orderLine, leftOut, orderText, ordersText, listingText}
+use Rattle.columns.specs.Calls.{columnReadOf, listingFault, listingWritten}
+use Rattle.kifsang.specs.Kinds.{kinds, isKind, kindWith}
+use Rattle.kifsang.specs.GroupCalls.{groupCallRefusal, groupCallValue, rowCallRefusal, rowCallValues, distortionCallRefusal, distortionCallValue}
+use Rattle.kifsang.specs.Words.{recordOf, wordsOf}
+use Rattle.kifsang.specs.ColumnCalls.{columnCallNumber}
+use Rattle.kifsang.specs.ListingCall.{listingCallRefusal, listingCallBytes, listingCallCount}
+use Rattle.kifsang.specs.RecordCalls.{freshCallRefusal, freshCallWords, addRowCallRefusal, addRowCallWords, verdictNumber, verdictCallRefusal, verdictCallNumber}
+
+-- each row is what a call answers and leaves, and the same in figures
+Alike : {A : Type 0} → List ((ℕ × A) × (ℕ × A)) → Type 0
+Alike rows = map (λ row. row .0) rows ≡ map (λ row. row .1) rows
+
+-- ---- kifsang_group_value
+
+-- lines 25, 29 to 32 and 36, so that the third order of system 10 has another value in each kind
+lines : List ℕ
+lines =
+    replicate 25 0 ++ (100 ∷ 0 ∷ 0 ∷ 0 ∷ 50 ∷ 50 ∷ 50 ∷ 50 ∷ 0 ∷ 0 ∷ 0 ∷ 300 ∷ replicate 475 0)
+
+groupValueOf : ℕ → ℕ → ℕ → List ℕ → ℕ × ℕ
+groupValueOf kind system order lent =
+    (groupCallRefusal kind system order lent, groupCallValue kind system order lent 77)
+
+group-values-worked :
+    Alike
+    ((groupValueOf 0 10 3 lines, (0, 10)) ∷
+    (groupValueOf 1 10 3 lines, (0, 22)) ∷
+    (groupValueOf 2 10 3 lines, (0, 17)) ∷
+    (groupValueOf 3 10 3 lines, (0, 28)) ∷
+    (groupValueOf 4 10 3 lines, (0, 26)) ∷
+    (groupValueOf 5 10 3 lines, (101, 77)) ∷
+    -- 101 before 1 before 6 before 4 before 5
+    (groupValueOf 5 11 41 [], (101, 77)) ∷
+    (groupValueOf 4 11 41 [], (1, 77)) ∷
+    (groupValueOf 4 10 41 [], (6, 77)) ∷
+    (groupValueOf 4 10 40 (replicate 511 (2 ^ 59 + 1)), (4, 77)) ∷
+    (groupValueOf 4 10 40 (replicate 512 (2 ^ 59 + 1)), (5, 77)) ∷
+    [])
+unfolding Alike groupValueOf lines groupCallRefusal groupCallValue isKind kindWith kinds groupRefusal isSystem isOrder groupValue rootOf largest weightsOf wholeLines weightedSum sumOver tabulate anyOf
+group-values-worked = refl
+
+-- ---- kifsang_distortion
+
+distortionFor : List ℕ → ℕ × ℕ
+distortionFor values = (distortionCallRefusal values, distortionCallValue values 77)
+
+distortions-worked :
+    Alike
+    ((distortionFor (1000 ∷ 300 ∷ 400 ∷ replicate 37 0), (0, 500)) ∷
+    -- 102 before 12
+    (distortionFor (replicate 39 0), (102, 77)) ∷
+    (distortionFor (replicate 41 0), (102, 77)) ∷
+    (distortionFor (replicate 40 0), (12, 77)) ∷
+    [])
+unfolding Alike distortionFor distortionCallRefusal distortionCallValue distortionAnswer distortionOf sumOfSquares sumOver largest
+distortions-worked = refl
+
+-- ---- kifsang_verdict
+
+-- a record of one window with one value at every order
+recordWith : ℕ → ℕ → List ℕ
+recordWith windows value = 10 ∷ windows ∷ replicate 120 value
+
+verdictFor : List ℕ → ℕ → ℕ → ℕ × ℕ
+verdictFor words order unitsPerAmpere =
+    (verdictCallRefusal words order unitsPerAmpere, verdictCallNumber words order unitsPerAmpere 77)
+
+verdicts-worked :
+    Alike
+    ((verdictFor (recordWith 1 2299988) 3 1000000, (0, 1)) ∷
+    (verdictFor (recordWith 1 2299989) 3 1000000, (0, 2)) ∷
+    (verdictFor (recordWith 1 2300012) 3 1000000, (0, 2)) ∷
+    (verdictFor (recordWith 1 2300013) 3 1000000, (0, 3)) ∷
+    -- 102 before 7 before 10 before 6 before 11
+    (verdictFor (replicate 121 7) 1 0, (102, 77)) ∷
+    (verdictFor (replicate 123 7) 1 0, (102, 77)) ∷
+    (verdictFor (replicate 122 7) 1 0, (7, 77)) ∷
+    (verdictFor ((2 ^ 32 + 10) ∷ 1 ∷ replicate 120 0) 1 0, (7, 77)) ∷
+    (verdictFor (recordWith 0 0) 1 0, (10, 77)) ∷
+    (verdictFor (recordWith 1 0) 1 0, (6, 77)) ∷
+    (verdictFor (recordWith 1 0) 41 0, (6, 77)) ∷
+    (verdictFor (recordWith 1 0) 40 0, (11, 77)) ∷
+    (verdictFor (recordWith 1 0) 40 (2 ^ 28 + 1), (11, 77)) ∷
+    (verdictFor (recordWith 1 0) 40 (2 ^ 28), (0, 1)) ∷
+    [])
+unfolding Alike verdictFor recordWith verdictCallRefusal verdictCallNumber verdictNumber recordOf verdictRefusal verdictOf averageOf peakOf combined isOver isWithin limitInUnits peakLimitInUnits limitOf figureIn ownFigures overOrder whole scale divide _+ᶠ_ isSound isSystem noneAbove allZero anyOf
+verdicts-worked = refl
+
+-- ---- kifsang_row
+
+rowFor : ℕ → ℕ → List ℕ → List ℕ → ℕ × List ℕ
+rowFor kind system lent values = (rowCallRefusal kind system lent values, rowCallValues kind system lent values)
+
+rows-worked :
+    Alike
+    ((rowFor 0 10 (replicate 512 50) (replicate 40 7), (0, replicate 40 10)) ∷
+    -- 101 before 102 before 1 before 4 before 5
+    (rowFor 5 11 [] (replicate 39 7), (101, replicate 39 7)) ∷
+    (rowFor 4 11 [] (replicate 39 7), (102, replicate 39 7)) ∷
+    (rowFor 4 11 [] (replicate 41 7), (102, replicate 41 7)) ∷
+    (rowFor 4 11 [] (replicate 40 7), (1, replicate 40 7)) ∷
+    (rowFor 4 10 (replicate 511 (2 ^ 59 + 1)) (replicate 40 7), (4, replicate 40 7)) ∷
+    (rowFor 4 10 (replicate 512 (2 ^ 59 + 1)) (replicate 40 7), (5, replicate 40 7)) ∷
+    [])
+unfolding Alike rowFor rowCallRefusal rowCallValues isKind kindWith kinds groupRefusal isSystem isOrder groupValues groupAnswer groupValue rootOf largest weightsOf wholeLines weightedSum sumOver tabulate anyOf
+rows-worked = refl
+
+-- ---- kifsang_fresh_record
+
+freshFor : ℕ → List ℕ → ℕ × List ℕ
+freshFor system words = (freshCallRefusal system words, freshCallWords system words)
+
+fresh-records-worked :
+    Alike
+    ((freshFor 10 (replicate 122 7), (0, 10 ∷ replicate 121 0)) ∷
+    (freshFor 12 (replicate 122 7), (0, 12 ∷ replicate 121 0)) ∷
+    -- 102 before 1
+    (freshFor 11 (replicate 121 7), (102, replicate 121 7)) ∷
+    (freshFor 11 (replicate 123 7), (102, replicate 123 7)) ∷
+    (freshFor 11 (replicate 122 7), (1, replicate 122 7)) ∷
+    [])
+unfolding Alike freshFor freshCallRefusal freshCallWords freshRefusal isSystem wordsOf emptyRecord
+fresh-records-worked = refl
+
+-- ---- kifsang_add_row
+
+addFor : List ℕ → ℕ → List ℕ → ℕ × List ℕ
+addFor words system values = (addRowCallRefusal words system values, addRowCallWords words system values)
+
+add-rows-worked :
+    Alike
+    ((addFor (10 ∷ replicate 121 0) 10 (replicate 40 8944), (0, 10 ∷ 1 ∷ replicate 120 8944)) ∷
+    -- •8 in words: smoothed, sum and peak of each order
+    (addFor (recordWith 1 8944) 10 (replicate 40 0), (0, 10 ∷ 2 ∷ replicate 40 7828 ++ (replicate 40 16772 ++ replicate 40 8944))) ∷
+    -- 102 before 7 before 1 before 8 before 9
+    (addFor (replicate 121 7) 11 (replicate 40 1), (102, replicate 121 7)) ∷
+    (addFor (replicate 122 7) 11 (replicate 39 1), (102, replicate 122 7)) ∷
+    (addFor (replicate 122 7) 11 (replicate 41 1), (102, replicate 122 7)) ∷
+    (addFor (replicate 122 7) 11 (replicate 40 1), (7, replicate 122 7)) ∷
+    (addFor (recordWith 45000 7) 11 (replicate 40 1), (1, recordWith 45000 7)) ∷
+    (addFor (recordWith 45000 7) 12 (replicate 40 1), (8, recordWith 45000 7)) ∷
+    (addFor (recordWith 45000 7) 10 (replicate 40 1), (9, recordWith 45000 7)) ∷
+    [])
+unfolding Alike addFor recordWith addRowCallRefusal addRowCallWords recordOf wordsOf addRowRefusal rowChecks withRow nextBook bookAt bookStep smoothedNext smoothedValue nearest tabulate isSound isSystem noneAbove allZero anyOf
+add-rows-worked = refl
+
+-- ---- kifsang_read_column
+
+columnFor : String → ℕ × ℤ
+columnFor text = (columnReadOf (bytesOf text) .refusal, columnCallNumber (bytesOf text) (pos 77))
+
+columns-worked :
+    Alike
+    ((columnFor "      -7", (0, negsuc 6)) ∷
+    (columnFor "      07", (13, pos 77)) ∷
+    (columnFor "       7 ", (13, pos 77)) ∷
+    (columnFor "      7", (13, pos 77)) ∷
+    [])
+unfolding Alike columnFor columnCallNumber columnReadOf bytesOf isDigit areDigits isWhole placeValue wholeNumber negativeNumber signedNumber afterBlanks columnNumber
+columns-worked = refl
+
+-- ---- kifsang_fill_listing
+
+-- rows of so many zeros: the refusal, the count of bytes, and the buffer after
+listingFor : ℕ → ℕ → ℕ → List ℕ → ℕ × (ℕ × List ℕ)
+listingFor group subgroup smoothed buffer =
+    let values : ℕ → List ℕ = λ count. replicate count 0 in (
+      listingCallRefusal (values group) (values subgroup) (values smoothed) buffer,
+      (
+        listingCallCount (values group) (values subgroup) (values smoothed) buffer 77,
+        listingCallBytes (values group) (values subgroup) (values smoothed) buffer,
+      ),
+    )
+
+listings-worked :
+    Alike
+    ((
+      listingFor 40 40 40 (replicate 1640 7),
+      (0, (80, bytesOf "  h       group    subgroup    smoothed\n  1           0           0           0\n" ++ replicate 1560 7)),
+    ) ∷
+    -- 102 of each row, and 102 before 14
+    (listingFor 39 40 40 (replicate 9 7), (102, (77, replicate 9 7))) ∷
+    (listingFor 40 41 40 (replicate 9 7), (102, (77, replicate 9 7))) ∷
+    (listingFor 40 40 0 (replicate 9 7), (102, (77, replicate 9 7))) ∷
+    (listingFor 40 40 40 (replicate 1639 7), (14, (77, replicate 1639 7))) ∷
+    [])
+unfolding Alike listingFor listingCallRefusal listingCallCount listingCallBytes listingFault listingWritten listingText ordersText orderText leftOut orderLine header columnText rightJustified numberText decimalText decimalWithin bytesOf
+listings-worked = refl
