@@ -4,19 +4,25 @@
  * From the samples of a mains current to its spectrum, its harmonic and interharmonic groups
  * after IEC 61000-4-7, values smoothed over 1.5 s, and a verdict for each order against class A of
  * IEC 61000-3-2. Each function is proved to answer what its definition says, for every input.
+ * Kifsang is the name of the product; every symbol begins with it.
  *
- * The way of the data
+ * From samples to verdicts
  *
  *     kifsang_spectrum       a window of 2,048 samples    ->  512 lines
  *     kifsang_row            the lines of a window        ->  the 40 values of a kind, a row
+ *     kifsang_fresh_record   a system                     ->  a record with no window
  *     kifsang_add_row        a record and a row           ->  the record with one window more
  *     kifsang_verdict        a record and an order        ->  within, close or over
  *
- * Formulas and units
+ * Samples and their rate
  *
- *     A sample is a converter count, -131071..131071. A window is 2,048 samples at the rate at which
- *     they hold `system` whole cycles of the mains: 10 at 50 Hz, 12 at 60 Hz; so a line is 5 Hz wide,
- *     and line number k stands for the frequency k * 5 Hz.
+ *     A sample is a converter count, -131071..131071. A window is 2,048 samples that span `system`
+ *     whole cycles of the mains: 10 cycles at 50 Hz, 12 at 60 Hz. So the converter's clock follows the
+ *     mains, at 204.8 samples a cycle (system 10) or 170.67 (system 12), 10,240 samples a second at
+ *     just 50 or 60 Hz; windows follow each other without a gap, five a second. A line is 5 Hz wide,
+ *     and line number k stands for the frequency k * 5 Hz. Nothing here resamples or filters.
+ *
+ * Formulas and units
  *
  *     A = round(sum over j of sample[j] * cosine[j * k] / 2^29)   cosine and sine are 2^30 times the
  *     B = round(sum over j of sample[j] *   sine[j * k] / 2^29)   true ones, to the nearest
@@ -32,29 +38,48 @@
  *         interharmonic group               1..system-1, weight 1
  *         interharmonic centred subgroup    2..system-2, weight 1
  *
+ * Limits
+ *
+ *     Class A, in milliamperes: order 2 1080, 3 2300, 4 430, 5 1140, 6 300, 7 770, 9 400, 11 330,
+ *     13 210; odd orders 15..39 2250/order; even orders 8..40 1840/order. With K units per ampere the
+ *     limit in units is that figure * K / 1000, as an exact fraction.
+ *
  * Order in buffers
  *
  *     Lines stand in the order of their numbers, line 0 first. The values of a row stand in the order
  *     of the harmonic orders, order 1 at place 0 and order 40 at place 39.
  *
+ * Records
+ *
+ *     A record is 122 words that the caller keeps; the calls read and write them at the places below.
+ *     It is sound if its system is 10 or 12, it holds at most 45,000 windows (2.5 hours), no sum is
+ *     above windows * (2^32 - 1), no smoothed value and no peak is above 2^32 - 1, and with no window
+ *     all the others are 0. A record that the calls made stays sound; any other 122 words may be
+ *     handed over, and are judged by this alone.
+ *
  * Memory and threads
  *
  *     The caller owns every buffer and lends it for the call; nothing is kept, nothing is allocated.
- *     A pointer with a length stands for so many elements, aligned for their type. A buffer that a
- *     call writes must overlap no other argument of that call. No pointer may be null; a length may
- *     be 0. The calls share no state, so any threads may call at the same time on buffers of their own.
- *     What the proofs assume of a caller is this paragraph and nothing else.
+ *     A pointer with a length stands for so many elements, aligned for their type; lengths have 64
+ *     bits on every board. A buffer that a call writes must overlap no other argument of that call. No
+ *     pointer may be null; a length may be 0. The calls share no state, so any threads may call at the
+ *     same time on buffers of their own. What the proofs assume of a caller is this paragraph and
+ *     nothing else.
  *
  * Refusals
  *
  *     Each function returns KIFSANG_NO_REFUSAL, or the number of the first check that failed, in the
- *     order listed with it. A refused call leaves every buffer as it was.
+ *     order listed with it. A refused call leaves every buffer as it was, so look at the number before
+ *     the buffer. No verdict has the number 0.
  *
  * Linking
  *
- *     With libkifsang.a, which `rt staticlib kifsang` writes to target/staticlib, for x86-64 Linux.
+ *     With libkifsang.a, which `make` proves and writes to target/staticlib, for x86-64 Linux.
  *
- * "Definition" names what the result is proved to equal, and the file that has it.
+ * "Definition" names what the result is proved to equal, and the file that has it. "Proved error" names
+ * a theorem about these very functions: exported-demand3 speaks of what they leave in the caller's
+ * buffers, after any calls in any order, refused ones included
+ * (crates/exported_accuracy/specs/Claim.antt, proved in crates/exported_accuracy/proofs).
  */
 #ifndef KIFSANG_H
 #define KIFSANG_H
@@ -90,7 +115,7 @@ enum kifsang_refusal {
     KIFSANG_WRONG_LINE_COUNT = 4,     /* a buffer of lines that does not hold 512 */
     KIFSANG_LINE_TOO_LARGE = 5,       /* a line above 2^59 */
     KIFSANG_ORDER_OUT_OF_RANGE = 6,   /* an order outside the orders of the call */
-    KIFSANG_UNSOUND_RECORD = 7,       /* words that no list of calls can have left */
+    KIFSANG_UNSOUND_RECORD = 7,       /* words that are not a sound record */
     KIFSANG_OTHER_SYSTEM = 8,         /* a row whose system is not the record's */
     KIFSANG_RECORD_FULL = 9,          /* the record holds 45,000 windows */
     KIFSANG_NO_WINDOW = 10,           /* the record holds no window yet */
@@ -111,8 +136,8 @@ enum kifsang_kind {
     KIFSANG_INTERHARMONIC_CENTRED_SUBGROUP = 4
 };
 
-/* How an order stands to its limit. 0 is none of them: a variable that was zeroed and that no call
- * wrote is no verdict. */
+/* How an order stands to its limit. 0 is none of them: a variable that was zeroed, and that a refused
+ * call left as it was, is no verdict. */
 enum kifsang_verdict_number {
     KIFSANG_WITHIN = 1,
     KIFSANG_CLOSE = 2,
@@ -152,8 +177,8 @@ uint32_t kifsang_spectrum(const int32_t *recording, uint64_t recording_length, u
  *
  * Refusals: 101 no such kind; 1 system not 10 or 12; 6 order outside 1..40; 4 line_count is not 512;
  *   5 a line above 2^59. A refused call leaves the value as it was.
- * Proved error: for the lines of a window in range the value is at most 7 units from the exact group
- *   (demand3, crates/accuracy/proofs/Demand3.antt).
+ * Proved error: for the lines that kifsang_spectrum left for a window, the value is at most 7 units
+ *   from the exact group (exported-demand3).
  * Definition: groupCallRefusal and groupCallValue, crates/kifsang/specs/GroupCalls.antt.
  */
 uint32_t kifsang_group_value(uint32_t kind, uint32_t system, uint32_t order, const uint64_t *lines,
@@ -171,7 +196,8 @@ uint32_t kifsang_group_value(uint32_t kind, uint32_t system, uint32_t order, con
  *
  * Refusals: 101 no such kind; 102 value_count is not 40; 1 system not 10 or 12; 4 line_count is not
  *   512; 5 a line above 2^59. A refused call leaves the values as they were.
- * Proved error: that of kifsang_group_value, for each order.
+ * Proved error: that of kifsang_group_value, for each order. For the lines that kifsang_spectrum left
+ *   for a window, the row is one of those that kifsang_add_row speaks of (exported-demand3).
  * Definition: rowCallRefusal and rowCallValues, crates/kifsang/specs/GroupCalls.antt.
  */
 uint32_t kifsang_row(uint32_t kind, uint32_t system, const uint64_t *lines, uint64_t line_count,
@@ -221,9 +247,9 @@ uint32_t kifsang_fresh_record(uint32_t system, uint64_t *record, uint64_t record
  * Refusals: 102 record_words is not 122 or value_count is not 40; 7 the record is not sound; 1 system
  *   not 10 or 12; 8 another system than the record's; 9 the record holds 45,000 windows. A refused
  *   call leaves the record as it was.
- * Proved error: after any list of calls from a fresh record, with rows of one kind worked from
- *   windows in range, each smoothed value is at most 12 units from the exact one (demand3,
- *   crates/accuracy/proofs/Demand3.antt).
+ * Proved error: after any calls since a fresh record, where the rows that were added come from
+ *   kifsang_spectrum and kifsang_row, all of one kind and with their own system, each smoothed value is
+ *   at most 12 units from the exact one (exported-demand3).
  * Definition: addRowCallRefusal and addRowCallWords, crates/kifsang/specs/RecordCalls.antt.
  */
 uint32_t kifsang_add_row(uint64_t *record, uint64_t record_words, uint32_t system,
@@ -231,19 +257,20 @@ uint32_t kifsang_add_row(uint64_t *record, uint64_t record_words, uint32_t syste
 
 /*
  * Judges an order against its class A limit: the average of its smoothed values against the limit,
- * their peak against 150 % of it.
+ * their peak against 150 % of it. A test is within if the value + 12 is at most its limit, over if the
+ * value - 12 exceeds it, else close. The verdict is over if either test is, within if both are, else
+ * close.
  *
  *   record            in    record_words words; any words may be handed over
  *   record_words      in    122
  *   order             in    2..40
  *   units_per_ampere  in    1..268435456, the units that one ampere r.m.s. gives
- *   verdict           out   one number, an enum kifsang_verdict_number
+ *   verdict           out   one number, 1..3, an enum kifsang_verdict_number
  *
  * Refusals: 102 record_words is not 122; 7 the record is not sound; 10 no window yet; 6 order outside
  *   2..40; 11 units_per_ampere outside 1..2^28. A refused call leaves the verdict as it was.
- * Proved error: after a list of calls as above, within and over hold for the exact average and peak
- *   too; close is given only where a value is at most 12 units from its limit (demand3,
- *   crates/accuracy/proofs/Demand3.antt).
+ * Proved error: after calls as above, within and over hold for the exact average and peak too; close
+ *   is given only where the average or the peak is at most 12 units from its limit (exported-demand3).
  * Definition: verdictCallRefusal and verdictCallNumber, crates/kifsang/specs/RecordCalls.antt.
  */
 uint32_t kifsang_verdict(const uint64_t *record, uint64_t record_words, uint32_t order,
@@ -281,7 +308,9 @@ uint32_t kifsang_write_column(uint8_t *buffer, uint64_t buffer_length, int64_t n
 
 /*
  * Fills a buffer with the listing of three rows: a header, and a line of 40 bytes for each order of
- * which a value is not 0, and for order 1 always.
+ * which a value is not 0, and for order 1 always. Bytes 1..3 of a line hold the order, 4..15 the group,
+ * 16..27 the subgroup, 28..39 the smoothed value, right-justified, and byte 40 a newline; the header has
+ * the names h, group, subgroup and smoothed at these bytes.
  *
  *   group           in    group_count values of the harmonic groups, in units
  *   group_count     in    40
