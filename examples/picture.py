@@ -1,62 +1,136 @@
 #!/usr/bin/env python3
-"""Draws a listing of harmlist as a picture: for each order a bar of the harmonic group, with its
-band of 12 units either way, beside the class A limit of the order. Writes SVG.
+"""Draws a report of examples/c/report.c as a picture: for each order a bar of the average with its
+band, in the colour of the verdict, and the peak as a ring, beside their limits. Limits, band and
+verdicts are those of the report. Writes SVG; refuses what is no report, with status 1.
 
-    harmlist < recording | picture.py UNITS_PER_AMPERE > picture.svg
+    report UNITS_PER_AMPERE < recording | picture.py > picture.svg
 """
 
 import math
+import re
 import sys
+from typing import NamedTuple, Optional
 
-BAND = 12
-OWN = {2: 1080, 3: 2300, 4: 430, 5: 1140, 6: 300, 7: 770, 9: 400, 11: 330, 13: 210}
-WIDTH, HEIGHT, LEFT, BOTTOM, TOP = 980, 420, 70, 60, 40
-LEAST, MOST = 1e-4, 30.0  # amperes, the ends of the logarithmic scale
+ORDERS = 40
+HEAD = ["system", "windows", "units per ampere", "band, units"]
+COLUMNS = "order  average, units  peak, units  limit, mA  peak limit, mA  verdict"
+WHOLE, DECIMAL = " +([0-9]+)", r" +([0-9]+\.[0-9]+)"
+LINE = re.compile(f"{WHOLE}{DECIMAL}{WHOLE}(?:{DECIMAL}{DECIMAL}  (within|close|over)| +-  +-  -)")
+COLOURS = {"within": "#2e6da4", "close": "#e39b1f", "over": "#c0392b", None: "#8a8f94"}
 
-
-def limit(order):
-    """The class A limit in amperes."""
-    return (OWN[order] if order in OWN else (1840 if order % 2 == 0 else 2250) / order) / 1000
-
-
-def height(amperes):
-    share = (math.log10(max(amperes, LEAST)) - math.log10(LEAST)) / (math.log10(MOST) - math.log10(LEAST))
-    return HEIGHT - BOTTOM - share * (HEIGHT - BOTTOM - TOP)
+WIDTH, HEIGHT, LEFT, RIGHT, TOP, BOTTOM = 980, 460, 70, 20, 64, 76
+LEAST = 1e-4  # amperes at the foot of the logarithmic scale
 
 
-def main():
-    units_per_ampere = float(sys.argv[1])
-    rows = {}
-    for line in sys.stdin.read().splitlines()[1:]:
-        rows[int(line[0:3])] = int(line[3:15])
-    step = (WIDTH - LEFT - 20) / 40
+class Order(NamedTuple):
+    """What the report says of an order: units, milliamperes and a word; order 1 has no limits."""
+
+    average: float
+    peak: int
+    limit: Optional[float]
+    peak_limit: Optional[float]
+    verdict: Optional[str]
+
+
+def read_report(text):
+    """The four numbers of the report's head, and its orders; ValueError for any other text."""
+    lines = text.split("\n")
+    if len(lines) != len(HEAD) + 2 + ORDERS + 1 or lines[-1] != "":
+        raise ValueError("no report")
+    head = []
+    for name, line in zip(HEAD, lines):
+        found = re.fullmatch(re.escape(name) + WHOLE, line)
+        if found is None or int(found[1]) == 0:
+            raise ValueError(f"no report: {name} is missing")
+        head.append(int(found[1]))
+    if lines[len(HEAD)] != "" or lines[len(HEAD) + 1] != COLUMNS:
+        raise ValueError("no report: its columns are not named")
+    orders = []
+    for number, line in enumerate(lines[len(HEAD) + 2 : -1], start=1):
+        found = LINE.fullmatch(line)
+        if found is None or int(found[1]) != number or (found[6] is None) != (number == 1):
+            raise ValueError(f"no report: the line of order {number}")
+        limits = [None if found[i] is None else float(found[i]) for i in (4, 5)]
+        orders.append(Order(float(found[2]), int(found[3]), *limits, found[6]))
+    return head, orders
+
+
+def picture(head, orders):
+    """The picture's lines."""
+    system, windows, units_per_ampere, band = head
+    highest = max(max(order.peak / units_per_ampere, (order.peak_limit or 0) / 1000) for order in orders)
+    least, most = math.log10(LEAST), math.ceil(math.log10(max(highest, 10 * LEAST)))
+    step = (WIDTH - LEFT - RIGHT) / ORDERS
+    foot = HEIGHT - BOTTOM
+
+    def height(amperes):
+        share = (math.log10(max(amperes, LEAST)) - least) / (most - least)
+        return foot - share * (foot - TOP)
+
+    def line(x1, x2, y1, y2, look):
+        return f'<line x1="{x1:.1f}" x2="{x2:.1f}" y1="{y1:.1f}" y2="{y2:.1f}" {look}/>'
+
+    def words(x, y, text, look=""):
+        return f'<text x="{x:.1f}" y="{y:.1f}"{look}>{text}</text>'
+
+    def bar(x, y, width, tall, colour):
+        return f'<rect x="{x:.1f}" y="{y:.1f}" width="{width:.1f}" height="{tall:.1f}" fill="{colour}"/>'
+
+    def ring(x, y):
+        return f'<circle cx="{x:.1f}" cy="{y:.1f}" r="3" fill="white" stroke="black"/>'
+
     out = [
         f'<svg xmlns="http://www.w3.org/2000/svg" width="{WIDTH}" height="{HEIGHT}" font-family="sans-serif" font-size="12">',
         f'<rect width="{WIDTH}" height="{HEIGHT}" fill="white"/>',
-        f'<text x="{LEFT}" y="24" font-size="15">Harmonic groups with their bands of 12 units, and the class A limits</text>',
+        words(LEFT, 24, "Smoothed harmonic groups against class A; limits and verdicts are the core's", ' font-size="15"'),
+        words(LEFT, 44, f"System {system}; windows: {windows}; units per ampere: {units_per_ampere}"),
     ]
-    for power in range(-4, 2):
+    for power in range(round(least), most + 1):
         y = height(10.0**power)
-        out.append(f'<line x1="{LEFT}" x2="{WIDTH - 20}" y1="{y:.1f}" y2="{y:.1f}" stroke="#ddd"/>')
-        out.append(f'<text x="{LEFT - 8}" y="{y + 4:.1f}" text-anchor="end">{10.0**power:g} A</text>')
-    for order in range(1, 41):
-        x = LEFT + (order - 1) * step
-        value = rows.get(order, 0)
-        top, bottom = height(value / units_per_ampere), height(LEAST)
-        over = order > 1 and value - BAND > limit(order) * units_per_ampere
-        colour = "#c0392b" if over else "#2e6da4"
-        out.append(f'<rect x="{x + 3:.1f}" y="{top:.1f}" width="{step - 6:.1f}" height="{max(bottom - top, 0):.1f}" fill="{colour}"/>')
-        low, high = height(max(value - BAND, 0) / units_per_ampere), height((value + BAND) / units_per_ampere)
-        out.append(f'<line x1="{x + step / 2:.1f}" x2="{x + step / 2:.1f}" y1="{low:.1f}" y2="{high:.1f}" stroke="black"/>')
-        if order > 1:
-            y = height(limit(order))
-            out.append(f'<line x1="{x:.1f}" x2="{x + step:.1f}" y1="{y:.1f}" y2="{y:.1f}" stroke="#222" stroke-width="2"/>')
-        if order % 2 == 1 or order == 40:
-            out.append(f'<text x="{x + step / 2:.1f}" y="{HEIGHT - BOTTOM + 16}" text-anchor="middle">{order}</text>')
-    out.append(f'<text x="{(LEFT + WIDTH) / 2:.0f}" y="{HEIGHT - 16}" text-anchor="middle">order; bars red where the group less its band is over the limit, limits as black lines; the band is {BAND / units_per_ampere * 1e6:.2f} µA either way</text>')
-    out.append("</svg>")
-    print("\n".join(out))
+        out.append(line(LEFT, WIDTH - RIGHT, y, y, 'stroke="#ddd"'))
+        out.append(words(LEFT - 8, y + 4, f"{10.0**power:g} A", ' text-anchor="end"'))
+    for number, order in enumerate(orders, start=1):
+        x = LEFT + (number - 1) * step
+        middle = x + step / 2
+        top = height(order.average / units_per_ampere)
+        low, high = (height((order.average + way * band) / units_per_ampere) for way in (-1, 1))
+        out.append(bar(x + 3, top, step - 6, foot - top, COLOURS[order.verdict]))
+        if order.limit is not None:
+            y, y_peak = height(order.limit / 1000), height(order.peak_limit / 1000)
+            out.append(line(x + 1, x + step - 1, y, y, 'stroke="black" stroke-width="2"'))
+            out.append(line(x + 1, x + step - 1, y_peak, y_peak, 'stroke="black" stroke-dasharray="3 2"'))
+        out.append(ring(middle, height(order.peak / units_per_ampere)))
+        out.append(line(middle, middle, low, high, 'stroke="black"'))
+        if number % 2 == 1 or number == ORDERS:
+            out.append(words(middle, foot + 16, number, ' text-anchor="middle"'))
+    y = foot + 38
+    for place, (verdict, colour) in enumerate(COLOURS.items()):
+        x = LEFT + 80 * place
+        out.append(bar(x, y - 10, 11, 11, colour))
+        out.append(words(x + 16, y, verdict or "order 1, which has no limit"))
+    x = LEFT + 430
+    out += [
+        line(x, x + 20, y - 4, y - 4, 'stroke="black" stroke-width="2"'),
+        words(x + 26, y, "limit of the average"),
+        line(x + 160, x + 180, y - 4, y - 4, 'stroke="black" stroke-dasharray="3 2"'),
+        words(x + 186, y, "limit of the peak"),
+        ring(x + 310, y - 4),
+        words(x + 320, y, "peak"),
+        words(LEFT, y + 22, f"Bars by order are averages; the band is {band} units, {band / units_per_ampere * 1e6:.2f} &#181;A, either way."),
+        "</svg>",
+    ]
+    return out
+
+
+def main():
+    try:
+        head, orders = read_report(sys.stdin.read())
+    except ValueError as fault:
+        print(f"picture.py: {fault}", file=sys.stderr)
+        return 1
+    print("\n".join(picture(head, orders)))
+    return 0
 
 
 if __name__ == "__main__":
-    main()
+    sys.exit(main())

@@ -1,6 +1,7 @@
 /* From samples to verdicts: a current of 50 Hz with a third and a fifth harmonic, 15 windows of
  * 0.2 s, judged against class A. A firmware engineer replaces `next_window` by the converter. */
 #include "kifsang.h"
+#include "verdict_word.h"
 
 #include <math.h>
 #include <stdio.h>
@@ -30,7 +31,6 @@ static int refused(const char *call, uint32_t number)
 
 int main(void)
 {
-    static const char *const names[] = {"within", "close", "over"};
     static int32_t samples[KIFSANG_WINDOW_LENGTH];
     static uint64_t lines[KIFSANG_LINE_COUNT], record[KIFSANG_RECORD_WORDS];
     static uint32_t row[KIFSANG_ORDER_COUNT];
@@ -45,10 +45,10 @@ int main(void)
             return 1;
     }
     for (uint32_t order = 2; order <= KIFSANG_ORDER_COUNT; order++) {
-        uint32_t verdict;
+        uint32_t verdict = 0;
         if (refused("verdict", kifsang_verdict(record, KIFSANG_RECORD_WORDS, order, UNITS_PER_AMPERE, &verdict)))
             return 1;
-        printf("order %2u: %s\n", (unsigned)order, names[verdict]);
+        printf("order %2u: %s\n", (unsigned)order, verdict_word(verdict));
     }
     return 0;
 }

@@ -1,6 +1,7 @@
 /* Runs the core, through its C interface, on the test cases that the second program prints
  * (`reference vectors SEED`, tests/reference/README.md has their form), and compares every answer
- * and every buffer. Reads standard input; ends with status 1 at the first difference. */
+ * and every buffer. What a call may write holds something else than 0 before, and must hold it still
+ * after a refusal. Reads standard input; ends with status 1 at the first difference. */
 #include "kifsang.h"
 
 #include <inttypes.h>
@@ -9,6 +10,7 @@
 #include <string.h>
 
 #define MOST_NUMBERS 100000
+#define BEFORE 0x5A5A5A5A /* what a word that a call may write holds before the call */
 
 static uint64_t number[MOST_NUMBERS]; /* of the present line; one with a minus as its 64 bits */
 static size_t count;
@@ -38,6 +40,12 @@ static void same_words(const char *what, const uint64_t *core, const uint64_t *e
         same(what, core[i], expected[i]);
 }
 
+/* The word that a call answers beside its refusal; a refused call leaves it. */
+static void same_answer(const char *what, uint64_t core, uint32_t refusal, uint64_t expected)
+{
+    same(what, core, refusal == KIFSANG_NO_REFUSAL ? expected : BEFORE);
+}
+
 static void take_row(uint32_t row[KIFSANG_ORDER_COUNT], const uint64_t *from)
 {
     for (size_t i = 0; i < KIFSANG_ORDER_COUNT; i++)
@@ -55,12 +63,12 @@ static void on_spectrum(void)
 {
     line_count = (size_t)number[1];
     for (size_t i = 0; i < line_count; i++)
-        lines[i] = 7;
+        lines[i] = BEFORE;
     uint32_t refusal = kifsang_spectrum(recording, recording_length, (size_t)number[0], lines, line_count);
     same("spectrum", refusal, number[2]);
     lines_are_ours = refusal == KIFSANG_NO_REFUSAL;
     for (size_t i = 0; !lines_are_ours && i < line_count; i++)
-        same("the buffer of a refused spectrum", lines[i], 7);
+        same("the buffer of a refused spectrum", lines[i], BEFORE);
 }
 
 static void on_lines(void)
@@ -78,9 +86,11 @@ static void on_groups(void)
 {
     uint32_t row[KIFSANG_ORDER_COUNT];
     uint32_t kind = (uint32_t)number[0] - 1;
+    for (size_t i = 0; i < KIFSANG_ORDER_COUNT; i++)
+        row[i] = BEFORE;
     same("row", kifsang_row(kind, (uint32_t)number[1], lines, line_count, row, KIFSANG_ORDER_COUNT), 0);
     for (uint32_t order = 1; order <= KIFSANG_ORDER_COUNT; order++) {
-        uint64_t value = 0;
+        uint64_t value = BEFORE;
         same("group", kifsang_group_value(kind, (uint32_t)number[1], order, lines, line_count, &value), 0);
         same("group value", value, number[1 + order]);
         same("value in a row", row[order - 1], value);
@@ -89,29 +99,35 @@ static void on_groups(void)
 
 static void on_group(void)
 {
-    uint64_t value = 0;
+    uint64_t value = BEFORE;
     if (number[1] > UINT32_MAX || number[2] > UINT32_MAX)
         return;
-    same("group", kifsang_group_value((uint32_t)number[0] - 1, (uint32_t)number[1], (uint32_t)number[2], lines, line_count, &value), number[3]);
-    same("group value", value, number[4]);
+    uint32_t refusal = kifsang_group_value((uint32_t)number[0] - 1, (uint32_t)number[1], (uint32_t)number[2], lines, line_count, &value);
+    same("group", refusal, number[3]);
+    same_answer("group value", value, refusal, number[4]);
 }
 
 static void on_distortion(void)
 {
     uint32_t row[KIFSANG_ORDER_COUNT];
-    uint64_t parts = 0;
+    uint64_t parts = BEFORE;
     take_row(row, number + 2);
-    same("distortion", kifsang_distortion(row, KIFSANG_ORDER_COUNT, &parts), number[0]);
-    same("parts per thousand", parts, number[1]);
+    uint32_t refusal = kifsang_distortion(row, KIFSANG_ORDER_COUNT, &parts);
+    same("distortion", refusal, number[0]);
+    same_answer("parts per thousand", parts, refusal, number[1]);
 }
 
 static void on_fresh(void)
 {
     if (number[0] > UINT32_MAX)
         return;
+    for (size_t i = 0; i < KIFSANG_RECORD_WORDS; i++)
+        record[i] = BEFORE;
     uint32_t refusal = kifsang_fresh_record((uint32_t)number[0], record, KIFSANG_RECORD_WORDS);
     same("fresh record", refusal, number[1]);
     record_is_ours = refusal == KIFSANG_NO_REFUSAL;
+    for (size_t i = 0; !record_is_ours && i < KIFSANG_RECORD_WORDS; i++)
+        same("the record of a refused fresh record", record[i], BEFORE);
 }
 
 static void on_add_row(void)
@@ -135,22 +151,24 @@ static void on_record(void)
 
 static void on_verdict(void)
 {
-    uint32_t verdict = 9;
+    uint32_t verdict = BEFORE;
     if (number[0] > UINT32_MAX || number[1] > UINT32_MAX)
         return;
-    same("verdict", kifsang_verdict(record, KIFSANG_RECORD_WORDS, (uint32_t)number[0], (uint32_t)number[1], &verdict), number[2]);
-    same("outcome", verdict, number[3] == 0 ? 9 : number[3]);
+    uint32_t refusal = kifsang_verdict(record, KIFSANG_RECORD_WORDS, (uint32_t)number[0], (uint32_t)number[1], &verdict);
+    same("verdict", refusal, number[2]);
+    same_answer("outcome", verdict, refusal, number[3]);
     same_words("the record after a verdict", record, expected_record, KIFSANG_RECORD_WORDS);
 }
 
 static void on_column_read(void)
 {
     static unsigned char text[MOST_NUMBERS];
-    int64_t value = 0;
+    int64_t value = BEFORE;
     for (size_t i = 2; i < count; i++)
         text[i - 2] = (unsigned char)number[i];
-    same("column read", kifsang_read_column(text, count - 2, &value), number[0]);
-    same("number read", (uint64_t)value, number[1]);
+    uint32_t refusal = kifsang_read_column(text, count - 2, &value);
+    same("column read", refusal, number[0]);
+    same_answer("number read", (uint64_t)value, refusal, number[1]);
 }
 
 static void on_column_write(void)
@@ -171,13 +189,12 @@ static void on_listing_values(void)
 static void on_listing(void)
 {
     static unsigned char buffer[MOST_NUMBERS];
-    uint64_t written = 0;
+    uint64_t written = BEFORE;
     memset(buffer, '#', count);
-    same("listing",
-         kifsang_fill_listing(listing_values[0], KIFSANG_ORDER_COUNT, listing_values[1], KIFSANG_ORDER_COUNT,
-                              listing_values[2], KIFSANG_ORDER_COUNT, buffer, count - 2, &written),
-         number[0]);
-    same("bytes of a listing", written, number[1]);
+    uint32_t refusal = kifsang_fill_listing(listing_values[0], KIFSANG_ORDER_COUNT, listing_values[1], KIFSANG_ORDER_COUNT,
+                                            listing_values[2], KIFSANG_ORDER_COUNT, buffer, count - 2, &written);
+    same("listing", refusal, number[0]);
+    same_answer("bytes of a listing", written, refusal, number[1]);
     for (size_t i = 2; i < count; i++)
         same("byte of a listing", buffer[i - 2], number[i]);
 }

@@ -1,22 +1,22 @@
 //! From samples to verdicts: the current of `examples/c/verdicts.c`, judged against class A.
 
-use kifsang::{Kind, Refusal, Verdict, LINE_COUNT, ORDER_COUNT, RECORD_WORDS, WINDOW_LENGTH};
+use kifsang::{Kind, Refusal, Verdict};
+use kifsang::{LINE_COUNT, ORDER_COUNT, RECORD_WORDS, UNITS_PER_COUNT, WINDOW_LENGTH};
 use std::f64::consts::TAU;
 
 /// Cycles in a window: 50 Hz.
 const SYSTEM: u32 = 10;
 const WINDOWS: usize = 15;
 /// Of the converter with its sensor.
-const COUNTS_PER_AMPERE: f64 = 1600.0;
-/// 4,096 units in a count.
-const UNITS_PER_AMPERE: u32 = 1600 * 4096;
+const COUNTS_PER_AMPERE: u32 = 1600;
+const UNITS_PER_AMPERE: u32 = COUNTS_PER_AMPERE * UNITS_PER_COUNT;
 
 /// One window of samples: 3 A at 50 Hz, 3.2 A at 150 Hz and 2 A at 250 Hz, peak values.
 fn next_window() -> Vec<i32> {
     let sample = |place: usize| {
         let angle = TAU * f64::from(SYSTEM) * place as f64 / WINDOW_LENGTH as f64;
         let amperes = 3.0 * angle.sin() + 3.2 * (3.0 * angle).sin() + 2.0 * (5.0 * angle).sin();
-        (COUNTS_PER_AMPERE * amperes).round() as i32
+        (f64::from(COUNTS_PER_AMPERE) * amperes).round() as i32
     };
     (0..WINDOW_LENGTH).map(sample).collect()
 }

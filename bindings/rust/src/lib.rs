@@ -1,8 +1,11 @@
-//! Safe wrappers of the proved harmonic core.
+//! Safe wrappers of the proved harmonic core. `include/kifsang.h` is its manual: formulas, units, the
+//! order in buffers, and the definition that each result is proved to equal.
 //!
 //! Each function hands its slices to the core as they are and tests nothing itself: the core is
-//! proved for every input and refuses what the specification refuses. A refusal leaves every
-//! buffer as it was. Calls share no state, so they may run on several threads.
+//! proved for every input and refuses what the specification refuses. It answers `Ok`, or the number
+//! of the first check that failed, in the order listed with it; a refused call leaves every buffer as
+//! it was. Calls share no state, so they may run on several threads. Values are in units of 1/4096
+//! sample count, r.m.s.
 
 use std::fmt;
 
@@ -10,23 +13,74 @@ use std::fmt;
 pub const WINDOW_LENGTH: usize = 2048;
 /// Lines of a spectrum.
 pub const LINE_COUNT: usize = 512;
-/// Orders of a row: the value of order h stands at h - 1.
+/// Values of a row: the orders 1..40, the value of order h at place h - 1.
 pub const ORDER_COUNT: usize = 40;
-/// Words of an observation record: system, windows, then smoothed, sum and peak of each order.
-pub const RECORD_WORDS: usize = 2 + 3 * ORDER_COUNT;
+/// Units in a sample count.
+pub const UNITS_PER_COUNT: u32 = 4096;
 /// Bytes of a number column.
 pub const COLUMN_WIDTH: usize = 8;
 /// Bytes that a listing may need.
 pub const LISTING_ROOM: usize = 1640;
 
-/// The number of the refusal, as the specification's table has it; 101 is an unknown kind and 102
-/// a row or a record of the wrong number of words.
+/// The place of the system among a record's words.
+pub const SYSTEM_PLACE: usize = 0;
+/// The place of the count of windows.
+pub const WINDOWS_PLACE: usize = 1;
+/// The first of the 40 places of the smoothed values.
+pub const SMOOTHED_PLACE: usize = 2;
+/// The first of the 40 places of their sums.
+pub const SUM_PLACE: usize = SMOOTHED_PLACE + ORDER_COUNT;
+/// The first of the 40 places of their peaks.
+pub const PEAK_PLACE: usize = SUM_PLACE + ORDER_COUNT;
+/// Words of a record.
+pub const RECORD_WORDS: usize = PEAK_PLACE + ORDER_COUNT;
+
+/// Why a call did nothing.
 #[derive(Clone, Copy, Debug, PartialEq, Eq)]
 pub struct Refusal(pub u32);
 
+/// Gives each number its name and its words.
+macro_rules! refusals {
+    ($($number:literal $name:ident $words:literal)*) => {
+        impl Refusal {
+            $(
+                #[doc = $words]
+                pub const $name: Refusal = Refusal($number);
+            )*
+
+            /// What the number stands for.
+            pub fn words(self) -> &'static str {
+                match self.0 {
+                    $($number => $words,)*
+                    _ => "a number that the core does not have",
+                }
+            }
+        }
+    };
+}
+
+refusals! {
+    1 UNKNOWN_SYSTEM "the system is neither 10 nor 12"
+    2 SHORT_WINDOW "fewer than 2,048 samples from the start"
+    3 SAMPLE_OUT_OF_RANGE "a sample of the window is outside -131071..131071"
+    4 WRONG_LINE_COUNT "a buffer of lines that does not hold 512"
+    5 LINE_TOO_LARGE "a line above 2^59"
+    6 ORDER_OUT_OF_RANGE "an order outside the orders of the call"
+    7 UNSOUND_RECORD "words that no list of calls can have left"
+    8 OTHER_SYSTEM "a row whose system is not the record's"
+    9 RECORD_FULL "the record holds 45,000 windows"
+    10 NO_WINDOW "the record holds no window yet"
+    11 SCALE_OUT_OF_RANGE "units per ampere outside 1..2^28"
+    12 NO_FUNDAMENTAL "the value of order 1 is 0"
+    13 NOT_A_COLUMN "no number column, or a number wider than its column"
+    14 WRONG_BUFFER_LENGTH "a text buffer of the wrong length"
+    101 UNKNOWN_KIND "a number that stands for no kind"
+    102 WRONG_WORD_COUNT "not 40 words for a row, or not 122 for a record"
+}
+
 impl fmt::Display for Refusal {
     fn fmt(&self, out: &mut fmt::Formatter<'_>) -> fmt::Result {
-        write!(out, "refused, number {}", self.0)
+        write!(out, "refused, number {}: {}", self.0, self.words())
     }
 }
 
@@ -43,74 +97,80 @@ pub enum Kind {
     InterharmonicCentredSubgroup = 4,
 }
 
-/// The verdict of an order against its limit.
+/// How an order stands to its limit. 0 is none of them.
 #[derive(Clone, Copy, Debug, PartialEq, Eq)]
+#[repr(u32)]
 pub enum Verdict {
-    Within,
-    Close,
-    Over,
+    Within = 1,
+    Close = 2,
+    Over = 3,
 }
 
 mod raw {
-    // A slice is a pointer and then its length; a single number is a pointer.
+    // A slice is a pointer and then its length, of 64 bits on every board; a single number is a
+    // pointer.
     extern "C" {
         pub fn kifsang_spectrum(
             recording: *const i32,
-            recording_length: usize,
-            start: usize,
+            recording_length: u64,
+            start: u64,
             lines: *mut u64,
-            line_count: usize,
+            line_count: u64,
         ) -> u32;
         pub fn kifsang_group_value(
             kind: u32,
             system: u32,
             order: u32,
             lines: *const u64,
-            line_count: usize,
+            line_count: u64,
             value: *mut u64,
         ) -> u32;
         pub fn kifsang_row(
             kind: u32,
             system: u32,
             lines: *const u64,
-            line_count: usize,
+            line_count: u64,
             values: *mut u32,
-            value_count: usize,
+            value_count: u64,
         ) -> u32;
         pub fn kifsang_distortion(
             values: *const u32,
-            value_count: usize,
+            value_count: u64,
             parts_per_thousand: *mut u64,
         ) -> u32;
-        pub fn kifsang_fresh_record(system: u32, record: *mut u64, record_words: usize) -> u32;
+        pub fn kifsang_fresh_record(system: u32, record: *mut u64, record_words: u64) -> u32;
         pub fn kifsang_add_row(
             record: *mut u64,
-            record_words: usize,
+            record_words: u64,
             system: u32,
             values: *const u32,
-            value_count: usize,
+            value_count: u64,
         ) -> u32;
         pub fn kifsang_verdict(
             record: *const u64,
-            record_words: usize,
+            record_words: u64,
             order: u32,
             units_per_ampere: u32,
             verdict: *mut u32,
         ) -> u32;
-        pub fn kifsang_read_column(text: *const u8, text_length: usize, number: *mut i64) -> u32;
-        pub fn kifsang_write_column(buffer: *mut u8, buffer_length: usize, number: i64) -> u32;
+        pub fn kifsang_read_column(text: *const u8, text_length: u64, number: *mut i64) -> u32;
+        pub fn kifsang_write_column(buffer: *mut u8, buffer_length: u64, number: i64) -> u32;
         pub fn kifsang_fill_listing(
             group: *const u32,
-            group_count: usize,
+            group_count: u64,
             subgroup: *const u32,
-            subgroup_count: usize,
+            subgroup_count: u64,
             smoothed: *const u32,
-            smoothed_count: usize,
+            smoothed_count: u64,
             buffer: *mut u8,
-            buffer_length: usize,
+            buffer_length: u64,
             written: *mut u64,
         ) -> u32;
     }
+}
+
+fn length<T>(slice: &[T]) -> u64 {
+    slice.len() as u64
 }
 
 fn answered<T>(refusal: u32, value: T) -> Result<T, Refusal> {
@@ -121,22 +181,34 @@ fn answered<T>(refusal: u32, value: T) -> Result<T, Refusal> {
     }
 }
 
-/// The lines of the window of 2,048 samples that begins at `start`, into a buffer of 512 lines.
+/// Works out the spectral lines of the window of 2,048 samples that begins at `start`, into a buffer
+/// of 512 lines. Only the window is looked at.
+///
+/// Refusals: 2 fewer than 2,048 samples from the start; 4 not 512 lines; 3 a sample of the window
+/// outside -131071..131071.
+///
+/// Proved error: A and B of each line are each at most 3/4 from those with the exact cosine and sine,
+/// unrounded.
 pub fn spectrum(recording: &[i32], start: usize, lines: &mut [u64]) -> Result<(), Refusal> {
     // SAFETY: each pointer comes with the length of its slice.
     let refusal = unsafe {
         raw::kifsang_spectrum(
             recording.as_ptr(),
-            recording.len(),
-            start,
+            length(recording),
+            start as u64,
             lines.as_mut_ptr(),
-            lines.len(),
+            length(lines),
         )
     };
     answered(refusal, ())
 }
 
-/// The group value of a kind and an order, in units of 1/4096 count, r.m.s.
+/// Works out one group value, below 2^32, from 512 lines of at most 2^59 each; the order is 1..40.
+///
+/// Refusals: 1 system not 10 or 12; 6 order outside 1..40; 4 not 512 lines; 5 a line above 2^59.
+///
+/// Proved error: for the lines of a window in range the value is at most 7 units from the exact
+/// group.
 pub fn group_value(kind: Kind, system: u32, order: u32, lines: &[u64]) -> Result<u64, Refusal> {
     let mut value = 0;
     // SAFETY: each pointer comes with the length of its slice, or points to one number.
@@ -146,14 +218,18 @@ pub fn group_value(kind: Kind, system: u32, order: u32, lines: &[u64]) -> Result
             system,
             order,
             lines.as_ptr(),
-            lines.len(),
+            length(lines),
             &mut value,
         )
     };
     answered(refusal, value)
 }
 
-/// The 40 values of a kind, into a buffer of 40.
+/// Works out the 40 group values of a kind, a row, into a buffer of 40.
+///
+/// Refusals: 102 not 40 values; 1 system not 10 or 12; 4 not 512 lines; 5 a line above 2^59.
+///
+/// Proved error: that of [`group_value`], for each order.
 pub fn row(kind: Kind, system: u32, lines: &[u64], values: &mut [u32]) -> Result<(), Refusal> {
     // SAFETY: each pointer comes with the length of its slice.
     let refusal = unsafe {
@@ -161,82 +237,114 @@ pub fn row(kind: Kind, system: u32, lines: &[u64], values: &mut [u32]) -> Result
             kind as u32,
             system,
             lines.as_ptr(),
-            lines.len(),
+            length(lines),
             values.as_mut_ptr(),
-            values.len(),
+            length(values),
         )
     };
     answered(refusal, ())
 }
 
-/// The distortion of a row of 40 values, in parts per thousand.
+/// Works out the group distortion of a row of 40 values, in parts per thousand of the value of order
+/// 1, below 2^45.
+///
+/// Refusals: 102 not 40 values; 12 the value of order 1 is 0.
+///
+/// Proved error: none, it is exact for the values that are given.
 pub fn distortion(values: &[u32]) -> Result<u64, Refusal> {
     let mut parts_per_thousand = 0;
     // SAFETY: the pointer comes with the length of its slice, the other points to one number.
-    let refusal =
-        unsafe { raw::kifsang_distortion(values.as_ptr(), values.len(), &mut parts_per_thousand) };
+    let refusal = unsafe {
+        raw::kifsang_distortion(values.as_ptr(), length(values), &mut parts_per_thousand)
+    };
     answered(refusal, parts_per_thousand)
 }
 
-/// A fresh observation record, into a buffer of [`RECORD_WORDS`].
+/// Begins an observation: a record of a system with no window, into [`RECORD_WORDS`] words.
+///
+/// Refusals: 102 not 122 words; 1 system not 10 or 12.
 pub fn fresh_record(system: u32, record: &mut [u64]) -> Result<(), Refusal> {
     // SAFETY: the pointer comes with the length of its slice.
-    let refusal = unsafe { raw::kifsang_fresh_record(system, record.as_mut_ptr(), record.len()) };
+    let refusal = unsafe { raw::kifsang_fresh_record(system, record.as_mut_ptr(), length(record)) };
     answered(refusal, ())
 }
 
-/// Adds a row of 40 values with their system to a record.
+/// Adds the row of one window, 40 values with their system, to a record; any words may be handed over
+/// as one.
+///
+/// Refusals: 102 not 122 words or not 40 values; 7 the record is not sound; 1 system not 10 or 12; 8
+/// another system than the record's; 9 the record holds 45,000 windows.
+///
+/// Proved error: after any list of calls from a fresh record, with rows of one kind worked from
+/// windows in range, each smoothed value is at most 12 units from the exact one.
 pub fn add_row(record: &mut [u64], system: u32, values: &[u32]) -> Result<(), Refusal> {
     // SAFETY: each pointer comes with the length of its slice.
     let refusal = unsafe {
         raw::kifsang_add_row(
             record.as_mut_ptr(),
-            record.len(),
+            length(record),
             system,
             values.as_ptr(),
-            values.len(),
+            length(values),
         )
     };
     answered(refusal, ())
 }
 
-/// The class A verdict of an order 2..40, at so many units per ampere.
+/// Judges an order, 2..40, against its class A limit: the average of its smoothed values against the
+/// limit, their peak against 150 % of it, with so many units in an ampere r.m.s., 1..2^28.
+///
+/// Refusals: 102 not 122 words; 7 the record is not sound; 10 no window yet; 6 order outside 2..40; 11
+/// units per ampere outside 1..2^28.
+///
+/// Proved error: after a list of calls as of [`add_row`], within and over hold for the exact average
+/// and peak too; close is given only where a value is at most 12 units from its limit.
 pub fn verdict(record: &[u64], order: u32, units_per_ampere: u32) -> Result<Verdict, Refusal> {
     let mut number = 0;
     // SAFETY: the pointer comes with the length of its slice, the other points to one number.
     let refusal = unsafe {
         raw::kifsang_verdict(
             record.as_ptr(),
-            record.len(),
+            length(record),
             order,
             units_per_ampere,
             &mut number,
         )
     };
-    let verdict = match number {
-        1 => Verdict::Within,
-        2 => Verdict::Close,
-        _ => Verdict::Over,
-    };
-    answered(refusal, verdict)
+    answered(refusal, ())?;
+    match number {
+        1 => Ok(Verdict::Within),
+        2 => Ok(Verdict::Close),
+        3 => Ok(Verdict::Over),
+        other => unreachable!("the core has three verdicts, and {other} is none of them"),
+    }
 }
 
-/// The number in a column of 8 bytes.
+/// Reads a number column: 8 bytes, right-justified, blanks before, a minus directly before the
+/// digits, no leading zero but the single 0, no -0. The number is -9999999..99999999.
+///
+/// Refusals: 13 not 8 bytes, or not of the form.
 pub fn read_column(text: &[u8]) -> Result<i64, Refusal> {
     let mut number = 0;
     // SAFETY: the pointer comes with the length of its slice, the other points to one number.
-    let refusal = unsafe { raw::kifsang_read_column(text.as_ptr(), text.len(), &mut number) };
+    let refusal = unsafe { raw::kifsang_read_column(text.as_ptr(), length(text), &mut number) };
     answered(refusal, number)
 }
 
-/// Writes a number into a column of 8 bytes.
+/// Writes a number column of 8 bytes, of the form that [`read_column`] reads.
+///
+/// Refusals: 14 not 8 bytes; 13 the number is wider than 8 bytes.
 pub fn write_column(buffer: &mut [u8], number: i64) -> Result<(), Refusal> {
     // SAFETY: the pointer comes with the length of its slice.
-    let refusal = unsafe { raw::kifsang_write_column(buffer.as_mut_ptr(), buffer.len(), number) };
+    let refusal = unsafe { raw::kifsang_write_column(buffer.as_mut_ptr(), length(buffer), number) };
     answered(refusal, ())
 }
 
-/// Fills a listing and gives the count of bytes written.
+/// Fills a buffer with the listing of three rows of 40 values and gives the count of its bytes,
+/// 80..1640: a header, and a line of 40 bytes for each order of which a value is not 0, and for order
+/// 1 always. Bytes after the listing stay.
+///
+/// Refusals: 102 not 40 values in one of the rows; 14 a buffer below 1640 bytes.
 pub fn fill_listing(
     group: &[u32],
     subgroup: &[u32],
@@ -248,13 +356,13 @@ pub fn fill_listing(
     let refusal = unsafe {
         raw::kifsang_fill_listing(
             group.as_ptr(),
-            group.len(),
+            length(group),
             subgroup.as_ptr(),
-            subgroup.len(),
+            length(subgroup),
             smoothed.as_ptr(),
-            smoothed.len(),
+            length(smoothed),
             buffer.as_mut_ptr(),
-            buffer.len(),
+            length(buffer),
             &mut written,
         )
     };

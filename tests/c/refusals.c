@@ -1,0 +1,330 @@
+/* Every refusal of the C interface: each check of each call fails alone, and each two together, where
+ * the number must be that of the one which the header lists first. The numbers stand here in figures.
+ *
+ * All that a call is lent stands in one struct, where no word of a result is 0 and every buffer is
+ * longer than the length that is told; a refused call must leave the whole struct as it was. */
+#include "kifsang.h"
+
+#include <stddef.h>
+#include <stdio.h>
+#include <stdlib.h>
+#include <string.h>
+
+#define FILL 0x5A
+#define COUNT_OF(array) (sizeof(array) / sizeof((array)[0]))
+
+struct arguments {
+    uint32_t kind, system, order, units_per_ampere;
+    uint64_t recording_length, start, line_count, value_count, record_words, text_length;
+    uint64_t group_count, subgroup_count, smoothed_count, buffer_length;
+    int64_t number;
+    uint64_t value, parts_per_thousand, written;
+    uint32_t verdict;
+    int32_t recording[2100];
+    uint64_t lines[520], record[130];
+    uint32_t values[50], group[50], subgroup[50], smoothed[50];
+    uint8_t text[16], buffer[1700];
+};
+
+/* A change of the arguments that makes a check fail, with the number of the check. */
+struct fault {
+    uint32_t number;
+    const char *what;
+    size_t place, size;
+    const void *bytes;
+};
+
+#define FAULT(number, type, field, wrong) \
+    {number, #field " = " #wrong, offsetof(struct arguments, field), sizeof(type), &(type){wrong}}
+
+struct call {
+    const char *name;
+    uint32_t (*run)(struct arguments *);
+    const struct fault *faults;
+    size_t fault_count;
+};
+
+static const uint64_t fresh[122] = {10};
+
+static uint32_t spectrum(struct arguments *a)
+{
+    return kifsang_spectrum(a->recording, a->recording_length, a->start, a->lines, a->line_count);
+}
+
+static const struct fault spectrum_faults[] = {
+    FAULT(2, uint64_t, recording_length, 0),
+    FAULT(2, uint64_t, recording_length, 2047),
+    FAULT(2, uint64_t, start, 1),
+    FAULT(2, uint64_t, start, UINT64_MAX),
+    FAULT(4, uint64_t, line_count, 0),
+    FAULT(4, uint64_t, line_count, 511),
+    FAULT(4, uint64_t, line_count, 513),
+    FAULT(3, int32_t, recording[0], 131072),
+    FAULT(3, int32_t, recording[1023], -131072),
+    FAULT(3, int32_t, recording[2047], INT32_MIN),
+};
+
+static uint32_t group_value(struct arguments *a)
+{
+    return kifsang_group_value(a->kind, a->system, a->order, a->lines, a->line_count, &a->value);
+}
+
+static const struct fault group_value_faults[] = {
+    FAULT(101, uint32_t, kind, 5),
+    FAULT(101, uint32_t, kind, UINT32_MAX),
+    FAULT(1, uint32_t, system, 0),
+    FAULT(1, uint32_t, system, 11),
+    FAULT(1, uint32_t, system, 13),
+    FAULT(6, uint32_t, order, 0),
+    FAULT(6, uint32_t, order, 41),
+    FAULT(4, uint64_t, line_count, 0),
+    FAULT(4, uint64_t, line_count, 511),
+    FAULT(4, uint64_t, line_count, 513),
+    FAULT(5, uint64_t, lines[0], 576460752303423489),
+    FAULT(5, uint64_t, lines[510], UINT64_MAX),
+};
+
+static uint32_t row(struct arguments *a)
+{
+    return kifsang_row(a->kind, a->system, a->lines, a->line_count, a->values, a->value_count);
+}
+
+static const struct fault row_faults[] = {
+    FAULT(101, uint32_t, kind, 5),
+    FAULT(101, uint32_t, kind, UINT32_MAX),
+    FAULT(102, uint64_t, value_count, 0),
+    FAULT(102, uint64_t, value_count, 39),
+    FAULT(102, uint64_t, value_count, 41),
+    FAULT(1, uint32_t, system, 0),
+    FAULT(1, uint32_t, system, 11),
+    FAULT(4, uint64_t, line_count, 0),
+    FAULT(4, uint64_t, line_count, 511),
+    FAULT(4, uint64_t, line_count, 513),
+    FAULT(5, uint64_t, lines[0], 576460752303423489),
+    FAULT(5, uint64_t, lines[510], UINT64_MAX),
+};
+
+static uint32_t distortion(struct arguments *a)
+{
+    return kifsang_distortion(a->values, a->value_count, &a->parts_per_thousand);
+}
+
+static const struct fault distortion_faults[] = {
+    FAULT(102, uint64_t, value_count, 0),
+    FAULT(102, uint64_t, value_count, 39),
+    FAULT(102, uint64_t, value_count, 41),
+    FAULT(12, uint32_t, values[0], 0),
+};
+
+static uint32_t fresh_record(struct arguments *a)
+{
+    return kifsang_fresh_record(a->system, a->record, a->record_words);
+}
+
+static const struct fault fresh_record_faults[] = {
+    FAULT(102, uint64_t, record_words, 0),
+    FAULT(102, uint64_t, record_words, 121),
+    FAULT(102, uint64_t, record_words, 123),
+    FAULT(1, uint32_t, system, 0),
+    FAULT(1, uint32_t, system, 11),
+};
+
+static uint32_t add_row(struct arguments *a)
+{
+    return kifsang_add_row(a->record, a->record_words, a->system, a->values, a->value_count);
+}
+
+static const struct fault add_row_faults[] = {
+    FAULT(102, uint64_t, record_words, 0),
+    FAULT(102, uint64_t, record_words, 121),
+    FAULT(102, uint64_t, record_words, 123),
+    FAULT(102, uint64_t, value_count, 0),
+    FAULT(102, uint64_t, value_count, 39),
+    FAULT(102, uint64_t, value_count, 41),
+    FAULT(7, uint64_t, record[0], 11),
+    FAULT(7, uint64_t, record[1], 0),
+    FAULT(7, uint64_t, record[1], 45001),
+    FAULT(7, uint64_t, record[41], 4294967296),
+    FAULT(7, uint64_t, record[42], UINT64_MAX),
+    FAULT(7, uint64_t, record[121], 4294967296),
+    FAULT(1, uint32_t, system, 0),
+    FAULT(1, uint32_t, system, 11),
+    FAULT(8, uint32_t, system, 12),
+    FAULT(9, uint64_t, record[1], 45000),
+};
+
+static uint32_t verdict(struct arguments *a)
+{
+    return kifsang_verdict(a->record, a->record_words, a->order, a->units_per_ampere, &a->verdict);
+}
+
+static const struct fault verdict_faults[] = {
+    FAULT(102, uint64_t, record_words, 0),
+    FAULT(102, uint64_t, record_words, 121),
+    FAULT(102, uint64_t, record_words, 123),
+    FAULT(7, uint64_t, record[0], 11),
+    FAULT(7, uint64_t, record[1], 45001),
+    FAULT(7, uint64_t, record[2], 4294967296),
+    FAULT(7, uint64_t, record[42], UINT64_MAX),
+    FAULT(7, uint64_t, record[121], 4294967296),
+    {10, "a fresh record", offsetof(struct arguments, record), sizeof fresh, fresh},
+    FAULT(6, uint32_t, order, 0),
+    FAULT(6, uint32_t, order, 1),
+    FAULT(6, uint32_t, order, 41),
+    FAULT(11, uint32_t, units_per_ampere, 0),
+    FAULT(11, uint32_t, units_per_ampere, 268435457),
+};
+
+static uint32_t read_column(struct arguments *a)
+{
+    return kifsang_read_column(a->text, a->text_length, &a->number);
+}
+
+static const struct fault read_column_faults[] = {
+    FAULT(13, uint64_t, text_length, 0),
+    FAULT(13, uint64_t, text_length, 7),
+    FAULT(13, uint64_t, text_length, 9),
+    FAULT(13, uint8_t, text[7], ' '),
+    FAULT(13, uint8_t, text[7], '0'),
+    FAULT(13, uint8_t, text[5], '0'),
+    FAULT(13, uint8_t, text[0], '-'),
+};
+
+static uint32_t write_column(struct arguments *a)
+{
+    return kifsang_write_column(a->buffer, a->buffer_length, a->number);
+}
+
+static const struct fault write_column_faults[] = {
+    FAULT(14, uint64_t, buffer_length, 0),
+    FAULT(14, uint64_t, buffer_length, 7),
+    FAULT(14, uint64_t, buffer_length, 9),
+    FAULT(13, int64_t, number, 100000000),
+    FAULT(13, int64_t, number, -10000000),
+    FAULT(13, int64_t, number, INT64_MIN),
+};
+
+static uint32_t fill_listing(struct arguments *a)
+{
+    return kifsang_fill_listing(a->group, a->group_count, a->subgroup, a->subgroup_count, a->smoothed,
+                                a->smoothed_count, a->buffer, a->buffer_length, &a->written);
+}
+
+static const struct fault fill_listing_faults[] = {
+    FAULT(102, uint64_t, group_count, 0),
+    FAULT(102, uint64_t, group_count, 39),
+    FAULT(102, uint64_t, group_count, 41),
+    FAULT(102, uint64_t, subgroup_count, 0),
+    FAULT(102, uint64_t, subgroup_count, 39),
+    FAULT(102, uint64_t, subgroup_count, 41),
+    FAULT(102, uint64_t, smoothed_count, 0),
+    FAULT(102, uint64_t, smoothed_count, 39),
+    FAULT(102, uint64_t, smoothed_count, 41),
+    FAULT(14, uint64_t, buffer_length, 0),
+    FAULT(14, uint64_t, buffer_length, 1639),
+};
+
+#define CALL(name) {#name, name, name##_faults, COUNT_OF(name##_faults)}
+
+static const struct call calls[] = {
+    CALL(spectrum),     CALL(group_value), CALL(row),         CALL(distortion),   CALL(fresh_record),
+    CALL(add_row),      CALL(verdict),     CALL(read_column), CALL(write_column), CALL(fill_listing),
+};
+
+static unsigned long tried;
+
+static void same(const char *name, const char *what, const char *and_what, uint64_t found, uint64_t expected)
+{
+    tried++;
+    if (found == expected)
+        return;
+    printf("%s, %s, %s: %llu in place of %llu\n", name, what, and_what, (unsigned long long)found,
+           (unsigned long long)expected);
+    exit(1);
+}
+
+/* Arguments that no call refuses, and no result of which is 0. */
+static void fill(struct arguments *a, const struct call *call)
+{
+    memset(a, FILL, sizeof *a);
+    a->kind = 2;
+    a->system = 10;
+    a->order = 3;
+    a->units_per_ampere = 268435456;
+    a->recording_length = 2048;
+    a->start = 0;
+    a->line_count = 512;
+    a->value_count = 40;
+    a->record_words = 122;
+    a->text_length = 8;
+    a->group_count = a->subgroup_count = a->smoothed_count = 40;
+    a->buffer_length = call->run == write_column ? 8 : 1640;
+    a->number = -9999999;
+    memcpy(a->text, "      -7", 8);
+    for (size_t i = 0; i < COUNT_OF(a->recording); i++)
+        a->recording[i] = i % 2 == 0 ? 131071 : -131071;
+    for (size_t i = 0; i < COUNT_OF(a->lines); i++)
+        a->lines[i] = 576460752303423488 - i;
+    for (size_t i = 0; i < COUNT_OF(a->record); i++)
+        a->record[i] = 4294967295 - i;
+    a->record[0] = 10;
+    a->record[1] = 44999;
+}
+
+static void put(struct arguments *a, const struct fault *fault)
+{
+    memcpy((char *)a + fault->place, fault->bytes, fault->size);
+}
+
+/* Runs a call with one fault, or with two of which the first is listed before. */
+static void refuse(const struct call *call, uint32_t verdict_before, const struct fault *first,
+                   const struct fault *second)
+{
+    static struct arguments before, after;
+    fill(&before, call);
+    before.verdict = verdict_before;
+    put(&before, second);
+    put(&before, first);
+    memcpy(&after, &before, sizeof after);
+    same(call->name, first->what, second->what, call->run(&after), first->number);
+    same(call->name, first->what, "all is as it was", memcmp(&before, &after, sizeof before) == 0, 1);
+}
+
+static void try_call(const struct call *call, uint32_t verdict_before)
+{
+    static struct arguments arguments;
+    fill(&arguments, call);
+    same(call->name, "no fault", "no refusal", call->run(&arguments), 0);
+    for (size_t first = 0; first < call->fault_count; first++)
+        for (size_t second = first; second < call->fault_count; second++)
+            refuse(call, verdict_before, &call->faults[first], &call->faults[second]);
+}
+
+/* The verdict of document 01's worked number 9: one window, order 3, 1,000,000 units per ampere. */
+static uint32_t verdict_of(uint32_t value)
+{
+    uint64_t record[122];
+    uint32_t values[40] = {0}, verdict = 0;
+    values[2] = value;
+    same("verdict", "a record", "of one window",
+         kifsang_fresh_record(10, record, 122) + kifsang_add_row(record, 122, 10, values, 40) +
+             kifsang_verdict(record, 122, 3, 1000000, &verdict),
+         0);
+    return verdict;
+}
+
+int main(void)
+{
+    for (size_t i = 0; i < COUNT_OF(calls); i++)
+        try_call(&calls[i], FILL);
+    /* A caller that zeroes its verdict and looks at no refusal reads 0, which is none of the three. */
+    for (size_t i = 0; i < COUNT_OF(calls); i++)
+        if (calls[i].run == verdict)
+            try_call(&calls[i], 0);
+    same("verdict", "2299988", "within", verdict_of(2299988), 1);
+    same("verdict", "2299989", "close", verdict_of(2299989), 2);
+    same("verdict", "2300012", "close", verdict_of(2300012), 2);
+    same("verdict", "2300013", "over", verdict_of(2300013), 3);
+    printf("%lu comparisons of refusals in C, all alike\n", tried);
+    return 0;
+}

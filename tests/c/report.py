@@ -1,0 +1,102 @@
+#!/usr/bin/env python3
+"""Recordings with faults: examples/c/report.c must write the line that harmlist writes, with the
+number that stands here, and end with status 1; examples/picture.py must refuse that line.
+
+    report.py REPORT HARMLIST PICTURE
+"""
+
+import os
+import subprocess
+import sys
+
+SCALE = "16384000"
+
+
+def column(number):
+    return f"{number:8d}\n"
+
+
+def recording(system, *samples):
+    return column(system) + "".join(map(column, samples))
+
+
+WINDOW = [1000] + [0] * 2047
+BAD_LINE = "      07\n"
+FAULTY = [
+    (13, ""),
+    (13, "10\n"),
+    (13, "      10"),
+    (13, "     010\n"),
+    (13, "      10\r\n"),
+    (13, " " * 8 + "\n" + recording(10, *WINDOW)),
+    (1, recording(0)),
+    (1, recording(11)),
+    (1, recording(-10)),
+    (1, recording(99999999)),
+    (1, recording(11) + BAD_LINE),
+    (1, recording(11, 131072)),
+    (13, recording(10) + BAD_LINE),
+    (13, recording(10) + BAD_LINE + column(131072)),
+    (13, recording(10, *WINDOW)[:-1]),
+    (13, recording(10, 1) + "       "),
+    (13, recording(10, *WINDOW) + "x"),
+    (3, recording(10, 131072)),
+    (3, recording(12, -131072)),
+    (3, recording(10, 131072) + BAD_LINE),
+    (3, recording(10, 1, 99999999) + "\n"),
+    (3, recording(10, *WINDOW[:-1], -9999999)),
+    (3, recording(10, *WINDOW, *WINDOW[:-1], 131072)),
+    (10, recording(10)),
+    (10, recording(12)),
+    (2, recording(10, 131071)),
+    (2, recording(10, *WINDOW[:-1])),
+    (2, recording(12, *WINDOW, -131071)),
+]
+SCALES = ["0", "268435457", "4294967296", "4311351296", "99999999999999999999", "-1", "1.5", " 1", "x", ""]
+
+
+def run(command, text):
+    """What a program writes, on both outputs, and its status."""
+    done = subprocess.run(command, input=text.encode(), capture_output=True, check=False)
+    return done.stdout, done.stderr, done.returncode
+
+
+def same(what, found, expected):
+    if found != expected:
+        sys.exit(f"{what}: {found!r} in place of {expected!r}")
+
+
+def main():
+    report, harmlist, picture = sys.argv[1:]
+    for number, text in FAULTY:
+        line = f"refused{number:3d}\n"
+        what = f"{number} in {text[:40]!r}"
+        same(f"harmlist, {what}", run([harmlist], text)[0], line.encode())
+        for scale in [SCALE, "0"]:
+            same(f"report, {what}", run([report, scale], text), (line.encode(), b"", 1))
+    whole = recording(10, *WINDOW)
+    for scale in SCALES:
+        same(f"report, {scale!r} units per ampere", run([report, scale], whole), (b"refused 11\n", b"", 1))
+    for scale in ["1", "268435456"]:
+        same(f"report, {scale!r} units per ampere", run([report, scale], whole)[1:], (b"", 0))
+    same("report without units per ampere", run([report], whole)[::2], (b"", 2))
+    with open("/dev/full", "wb") as full:
+        done = subprocess.run([report, SCALE], input=whole.encode(), stdout=full, stderr=subprocess.PIPE, check=False)
+        same("report that cannot be written", done.returncode, 2)
+    folder = os.open("/", os.O_RDONLY)  # a read from it fails
+    done = subprocess.run([report, SCALE], stdin=folder, capture_output=True, check=False)
+    same("report of what cannot be read", (done.stdout, done.returncode), (b"", 2))
+
+    listing = run([harmlist], whole)[0].decode()
+    good = run([report, SCALE], whole)[0].decode()
+    same("picture of a report", run([picture], good)[1:], (b"", 0))
+    others = ["", "\n", "refused 13\n", listing, good[:-1], good + "\n", good + good, good.replace("within", "Within", 1)]
+    others += [good.replace("band, units", "band", 1), good.replace("limit", "Limit", 1), good.replace("\n    7 ", "\n    8 ", 1)]
+    for text in others:
+        out, said, status = run([picture], text)
+        same(f"picture of {text[:40]!r}", (out, said.count(b"\n"), status), (b"", 1, 1))
+    print(f"{len(FAULTY)} faulty recordings: the report and harmlist alike; {len(others)} texts that are no report: not drawn")
+
+
+if __name__ == "__main__":
+    main()
