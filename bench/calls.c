@@ -96,7 +96,7 @@ static uint32_t c_verdict(const uint64_t *record)
     uint64_t figure = 2300 * (uint64_t)1000000, n = record[1], sum = record[44], peak = record[84];
     int over = (figure + 12 * 1000) * n < sum * 1000 || (3 * figure + 12 * 2000) < peak * 2000;
     int within = (sum + 12 * n) * 1000 <= figure * n && (peak + 12) * 2000 <= 3 * figure;
-    return over ? 2 : within ? 0 : 1;
+    return over ? 3 : within ? 1 : 2;
 }
 
 static void c_listing(void)

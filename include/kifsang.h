@@ -90,13 +90,16 @@
 extern "C" {
 #endif
 
-/* Lengths, and the unit. */
-#define KIFSANG_WINDOW_LENGTH 2048 /* samples in a window */
-#define KIFSANG_LINE_COUNT 512     /* lines of a spectrum */
-#define KIFSANG_ORDER_COUNT 40     /* values of a row: the orders 1..40 */
-#define KIFSANG_UNITS_PER_COUNT 4096 /* units in a sample count */
-#define KIFSANG_COLUMN_WIDTH 8     /* bytes of a number column */
-#define KIFSANG_LISTING_ROOM 1640  /* bytes that a listing may need */
+/* Lengths, the unit, and the largest arguments. */
+#define KIFSANG_WINDOW_LENGTH 2048      /* samples in a window */
+#define KIFSANG_LINE_COUNT 512          /* lines of a spectrum */
+#define KIFSANG_ORDER_COUNT 40          /* values of a row: the orders 1..40 */
+#define KIFSANG_UNITS_PER_COUNT 4096    /* units in a sample count */
+#define KIFSANG_LARGEST_SAMPLE 131071   /* the largest size of a sample, in counts */
+#define KIFSANG_LARGEST_SCALE 268435456 /* the most units per ampere, 2^28 */
+#define KIFSANG_MOST_WINDOWS 45000      /* the most windows of a record */
+#define KIFSANG_COLUMN_WIDTH 8          /* bytes of a number column */
+#define KIFSANG_LISTING_ROOM 1640       /* bytes that a listing may need */
 
 /* The places of a record's parts among its words. The last three are the first of 40 places each. */
 #define KIFSANG_SYSTEM_PLACE 0

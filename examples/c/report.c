@@ -17,7 +17,6 @@
 
 #define LINE_BYTES (KIFSANG_COLUMN_WIDTH + 1)
 #define FIRST_LIMITED 2 /* order 1 has no limit */
-#define FINEST_SCALE 268435456 /* the most units per ampere that the core takes */
 
 /* The limit of one of the two tests of an order. */
 struct limit {
@@ -104,7 +103,7 @@ static uint32_t find_last(uint32_t order, int place, uint32_t verdict, uint64_t 
         uint64_t middle = *last + (beyond - *last) / 2;
         uint32_t found = 0;
         record[place] = middle;
-        refusal = kifsang_verdict(record, KIFSANG_RECORD_WORDS, order, FINEST_SCALE, &found);
+        refusal = kifsang_verdict(record, KIFSANG_RECORD_WORDS, order, KIFSANG_LARGEST_SCALE, &found);
         if (found <= verdict)
             *last = middle;
         else
@@ -120,7 +119,7 @@ static uint32_t find_limit(uint32_t order, int place, struct limit *limit)
     uint32_t refusal = find_last(order, place, KIFSANG_WITHIN, &within);
     if (refusal == KIFSANG_NO_REFUSAL)
         refusal = find_last(order, place, KIFSANG_CLOSE, &close);
-    limit->milliamperes = 1000.0 * (double)(within + close) / 2 / FINEST_SCALE;
+    limit->milliamperes = 1000.0 * (double)(within + close) / 2 / KIFSANG_LARGEST_SCALE;
     limit->band = (close - within) / 2;
     return refusal;
 }

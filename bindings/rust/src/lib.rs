@@ -17,6 +17,12 @@ pub const LINE_COUNT: usize = 512;
 pub const ORDER_COUNT: usize = 40;
 /// Units in a sample count.
 pub const UNITS_PER_COUNT: u32 = 4096;
+/// The largest size of a sample, in counts.
+pub const LARGEST_SAMPLE: i32 = 131071;
+/// The most units per ampere.
+pub const LARGEST_SCALE: u32 = 1 << 28;
+/// The most windows of a record.
+pub const MOST_WINDOWS: u64 = 45000;
 /// Bytes of a number column.
 pub const COLUMN_WIDTH: usize = 8;
 /// Bytes that a listing may need.
@@ -66,7 +72,7 @@ refusals! {
     4 WRONG_LINE_COUNT "a buffer of lines that does not hold 512"
     5 LINE_TOO_LARGE "a line above 2^59"
     6 ORDER_OUT_OF_RANGE "an order outside the orders of the call"
-    7 UNSOUND_RECORD "words that no list of calls can have left"
+    7 UNSOUND_RECORD "words that are not a sound record"
     8 OTHER_SYSTEM "a row whose system is not the record's"
     9 RECORD_FULL "the record holds 45,000 windows"
     10 NO_WINDOW "the record holds no window yet"
