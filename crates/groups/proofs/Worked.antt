@@ -13,6 +13,7 @@ use Rattle.groups.specs.declared.Kind.the-variants.{Component, HarmonicG
 use Rattle.groups.specs.declared.OrderValues.{OrderValues}
 use Rattle.groups.specs.Weights.{wholeLines, weightsOf, weightedSum}
 use Rattle.groups.specs.Group.{isSystem, isOrder, groupValue, groupRefusal, groupAnswer, groupValues, groupValuesAnswer}
+use Rattle.groups.specs.FirstValues.{firstValues}
 use Rattle.groups.specs.Distortion.{sumOfSquares, distortionOf, distortionAnswer}
 
 -- ---- the answers for components
@@ -64,31 +65,36 @@ cases-worked = refl
 
 -- ---- the answers for a row of components
 
--- a system, so many lines before the last, the last, and what is answered
+-- 512 lines of which one is not 0
+abbrev oneLine : ℕ → List ℕ
+oneLine line = set (replicate 512 0) line 50
+
+-- a system, the lines, and what is answered
 pub record RowCase : Type 0 where
   pub system : ℕ
-  pub before : ℕ
-  pub last : ℕ
+  pub lines : List ℕ
   pub answered : OrderValues
 
--- one value at every order
-abbrev rowCase : ℕ → ℕ → ℕ → ℕ → ℕ → RowCase
-rowCase system before last refusal value =
-    record { system = system; before = before; last = last; answered = record { refusal = refusal; values = replicate 40 value } }
+abbrev rowCase : ℕ → List ℕ → ℕ → List ℕ → RowCase
+rowCase system lines refusal values =
+    record { system = system; lines = lines; answered = record { refusal = refusal; values = values } }
 
 abbrev rowCases : List RowCase
 rowCases =
-    rowCase 10 511 0 0 10 ∷
-    rowCase 12 511 0 0 10 ∷
-    rowCase 11 511 0 1 0 ∷
-    rowCase 10 510 0 4 0 ∷
-    rowCase 10 511 (2 ^ 59 + 1) 5 0 ∷
+    -- the lines of the orders 1 and 3, and of 40
+    rowCase 10 (oneLine 10) 0 (10 ∷ replicate 39 0) ∷
+    rowCase 10 (oneLine 30) 0 (0 ∷ 0 ∷ 10 ∷ replicate 37 0) ∷
+    rowCase 12 (oneLine 480) 0 (replicate 39 0 ++ (10 ∷ [])) ∷
+    -- each fault
+    rowCase 11 (linesBefore 511 0) 1 (replicate 40 0) ∷
+    rowCase 10 (linesBefore 510 0) 4 (replicate 40 0) ∷
+    rowCase 10 (linesBefore 511 (2 ^ 59 + 1)) 5 (replicate 40 0) ∷
     -- two faults: the earlier in the row decides
-    rowCase 11 510 0 1 0 ∷
-    rowCase 10 512 (2 ^ 59 + 1) 4 0 ∷
+    rowCase 11 (linesBefore 510 0) 1 (replicate 40 0) ∷
+    rowCase 10 (linesBefore 512 (2 ^ 59 + 1)) 4 (replicate 40 0) ∷
     []
 
-rowCases-worked : map (λ c. groupValuesAnswer Component (c .system) (linesBefore (c .before) (c .last))) rowCases ≡ map (λ c. c .answered) rowCases
+rowCases-worked : map (λ c. groupValuesAnswer Component (c .system) (c .lines)) rowCases ≡ map (λ c. c .answered) rowCases
 unfolding groupValuesAnswer groupValues tabulate groupAnswer groupRefusal isSystem isOrder anyOf groupValue weightsOf weightedSum sumOver rootOf largest
 rowCases-worked = refl
 
@@ -124,13 +130,22 @@ spans =
     span Component 12 40 ((479, 0) ∷ (480, 10) ∷ (481, 0) ∷ []) ∷
     []
 
--- 512 lines of which one is not 0
-abbrev oneLine : ℕ → List ℕ
-oneLine line = set (replicate 512 0) line 50
-
 spans-worked : map (λ c. map (λ v. groupValue (c .kind) (c .system) (c .order) (oneLine (v .0))) (c .values)) spans ≡ map (λ c. map (λ v. v .1) (c .values)) spans
 unfolding groupValue weightsOf wholeLines tabulate weightedSum sumOver rootOf largest
 spans-worked = refl
+
+-- ---- the values of a row in words
+
+-- some words, and the values of the orders 1..40
+abbrev words : List (List ℕ × List ℕ)
+words =
+    (7 ∷ 8 ∷ [], 7 ∷ 8 ∷ replicate 38 0) ∷
+    (7 ∷ replicate 38 0 ++ (8 ∷ 9 ∷ []), 7 ∷ replicate 38 0 ++ (8 ∷ [])) ∷
+    []
+
+words-worked : map (λ c. firstValues (c .0)) words ≡ map (λ c. c .1) words
+unfolding firstValues tabulate
+words-worked = refl
 
 -- ---- distortion
 
