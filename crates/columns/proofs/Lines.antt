@@ -66,7 +66,9 @@ module _ (group subgroup smoothed : List ℕ) (g : Values group) (s : Values sub
   -- order 1 is never left out
   length-orders-ge : (n : ℕ) → lineLength ≤ length (ordersText (suc n) group subgroup smoothed)
   unfolding ordersText orderText leftOut
-  length-orders-ge zero = simp and-false (omega (arith, length-line 1 (getD group 0 0) (getD subgroup 0 0) (getD smoothed 0 0) (omega arith) (g 0) (s 0) (m 0)))
+  length-orders-ge zero =
+      let first = length-line 1 (getD group 0 0) (getD subgroup 0 0) (getD smoothed 0 0) (omega arith) (g 0) (s 0) (m 0) in
+      simp and-false (omega (arith, first))
   length-orders-ge (suc n) = rw length-append (omega (arith, length-orders-ge n))
 
   -- the header and a line, to the header and 40 lines

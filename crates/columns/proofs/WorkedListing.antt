@@ -72,10 +72,12 @@ rooms =
     room 1641 0 80 (zerosText ++ marks 1561) ∷
     []
 
-rooms-answered : map (λ c. listingAnswer (marks (c .bytes)) (replicate 40 0) (replicate 40 0) (replicate 40 0)) rooms ≡ map (λ c. c .answered) rooms
+rooms-answered : map (λ c. listingAnswer (marks (c .bytes)) (replicate 40 0) (replicate 40 0) (replicate 40 0)) rooms
+    ≡ map (λ c. c .answered) rooms
 unfolding listingFault listingText ordersText orderText leftOut orderLine header columnText rightJustified numberText decimalText decimalWithin bytesOf
 rooms-answered = refl
 
-rooms-written : map (λ c. listingWritten (marks (c .bytes)) (replicate 40 0) (replicate 40 0) (replicate 40 0)) rooms ≡ map (λ c. c .after) rooms
+rooms-written : map (λ c. listingWritten (marks (c .bytes)) (replicate 40 0) (replicate 40 0) (replicate 40 0)) rooms
+    ≡ map (λ c. c .after) rooms
 unfolding listingFault listingWritten listingText ordersText orderText leftOut orderLine header columnText rightJustified numberText decimalText decimalWithin bytesOf
 rooms-written = refl

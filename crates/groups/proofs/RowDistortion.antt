@@ -39,7 +39,8 @@ sumOfSquares-le (v ∷ vs) h =
     omega (arith, square-lt v (h 0), sumOfSquares-le vs (λ i. h (suc i)))
 
 -- the scaled sum of a row of 32-bit values, and that its root has 64 binary digits
-scaled-sum-small : (values : List ℕ) → length values ≡ orderCount → ((i : ℕ) → getD values i 0 < 2 ^ 32) → squaredThousand * sumOfSquares (drop 1 values) < 2 ^ 90
+scaled-sum-small : (values : List ℕ) → length values ≡ orderCount → ((i : ℕ) → getD values i 0 < 2 ^ 32)
+    → squaredThousand * sumOfSquares (drop 1 values) < 2 ^ 90
 scaled-sum-small values e h =
     omega (
       arith,
@@ -47,7 +48,8 @@ scaled-sum-small values e h =
       sumOfSquares-le (drop 1 values) (λ i. rw (getD-drop 1 values i 0) (h (1 + i))),
     )
 
-pub scaled-sum-lt : (values : List ℕ) → length values ≡ orderCount → ((i : ℕ) → getD values i 0 < 2 ^ 32) → squaredThousand * sumOfSquares (drop 1 values) < rootLimit
+pub scaled-sum-lt : (values : List ℕ) → length values ≡ orderCount → ((i : ℕ) → getD values i 0 < 2 ^ 32)
+    → squaredThousand * sumOfSquares (drop 1 values) < rootLimit
 scaled-sum-lt values e h = lt-of-lt-of-le (scaled-sum-small values e h) (lit≤ tt)
 
 -- t² × r² as t grows, up to a number whose root has 64 binary digits

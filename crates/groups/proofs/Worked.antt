@@ -59,7 +59,8 @@ cases =
 abbrev linesBefore : ℕ → ℕ → List ℕ
 linesBefore before last = replicate before 50 ++ (last ∷ [])
 
-cases-worked : map (λ c. groupAnswer Component (c .system) (c .order) (linesBefore (c .before) (c .last))) cases ≡ map (λ c. c .answered) cases
+cases-worked : map (λ c. groupAnswer Component (c .system) (c .order) (linesBefore (c .before) (c .last))) cases
+    ≡ map (λ c. c .answered) cases
 unfolding groupAnswer groupRefusal isSystem isOrder anyOf groupValue weightsOf weightedSum sumOver rootOf largest
 cases-worked = refl
 
@@ -130,7 +131,8 @@ spans =
     span Component 12 40 ((479, 0) ∷ (480, 10) ∷ (481, 0) ∷ []) ∷
     []
 
-spans-worked : map (λ c. map (λ v. groupValue (c .kind) (c .system) (c .order) (oneLine (v .0))) (c .values)) spans ≡ map (λ c. map (λ v. v .1) (c .values)) spans
+spans-worked : map (λ c. map (λ v. groupValue (c .kind) (c .system) (c .order) (oneLine (v .0))) (c .values)) spans
+    ≡ map (λ c. map (λ v. v .1) (c .values)) spans
 unfolding groupValue weightsOf wholeLines tabulate weightedSum sumOver rootOf largest
 spans-worked = refl
 

@@ -103,6 +103,7 @@ calls =
     refused (observed 10 45000 5 6 7) 12 8 ∷
     []
 
-calls-worked : map (λ c. addRowAnswer (c .observation) (record { system = c .system; values = only 8944 })) calls ≡ map (λ c. c .answered) calls
+calls-worked : map (λ c. addRowAnswer (c .observation) (record { system = c .system; values = only 8944 })) calls
+    ≡ map (λ c. c .answered) calls
 unfolding addRowAnswer addRowRefusal rowChecks isSound isSystem noneAbove allZero anyOf withRow tabulate nextBook bookAt bookStep smoothedNext smoothedValue nearest
 calls-worked = refl

@@ -17,9 +17,11 @@ abbrev checks : Bool → Bool → List (Bool × ℕ)
 checks first second = (first, 1) ∷ (second, 2) ∷ []
 
 -- the first of two faults decides, and the second where the first is not there
-first-decides : (firstFault (checks true true) ≡ 1) × (firstFault (checks true false) ≡ 1) × (firstFault (checks false true) ≡ 2) × (firstFault (checks false false) ≡ 0)
+first-decides : (firstFault (checks true true) ≡ 1) × (firstFault (checks true false) ≡ 1)
+    × (firstFault (checks false true) ≡ 2) × (firstFault (checks false false) ≡ 0)
 first-decides = (refl, refl, refl, refl)
 
 -- "A refusal gives its number with 0 as value"
-answers-worked : (answer 0 9 ≡ record { refusal = 0; value = 9 }) × (answer 1 9 ≡ record { refusal = 1; value = 0 }) × (answer 14 9 ≡ record { refusal = 14; value = 0 })
+answers-worked : (answer 0 9 ≡ record { refusal = 0; value = 9 }) × (answer 1 9 ≡ record { refusal = 1; value = 0 })
+    × (answer 14 9 ≡ record { refusal = 14; value = 0 })
 answers-worked = (refl, refl, refl)
