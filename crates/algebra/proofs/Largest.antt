@@ -61,12 +61,12 @@ module _ (passes : ℕ → Bool) (below : (t : ℕ) → T (passes (suc t)) → T
   pass-down zero m p = pass-eq passes (omega arith) p
   pass-down (suc k) m p = pass-down k m (below (k + m) (pass-eq passes (omega arith) p))
 
-  last-le : {s t : ℕ} → Last passes s → Last passes t → s ≤ t
-  last-le {s} {t} ls lt =
-      by-contra s t λ h. lt .next-fails (pass-down (s - suc t) (suc t) (pass-eq passes (omega arith) (ls .passed)))
+  passed-le : {s t : ℕ} → T (passes s) → Last passes t → s ≤ t
+  passed-le {s} {t} p l =
+      by-contra s t λ h. l .next-fails (pass-down (s - suc t) (suc t) (pass-eq passes (omega arith) p))
 
   last-unique : {s t : ℕ} → Last passes s → Last passes t → s ≡ t
-  last-unique ls lt = le-antisymm (last-le ls lt) (last-le lt ls)
+  last-unique ls lt = le-antisymm (passed-le (ls .passed) lt) (passed-le (lt .passed) ls)
 
 pub largest-unique : (passes : ℕ → Bool) (b : ℕ) → Threshold passes b → {t : ℕ} → Last passes t → t ≡ largest passes b
 largest-unique passes b r l = last-unique passes (r .below) l (largest-last passes b r)
@@ -91,6 +91,12 @@ largest-le f n b r =
 pub largest-suc-gt : (f : ℕ → ℕ) (n b : ℕ) → Bounded f n b → n < f (suc (largest (λ t. leb (f t) n) b))
 largest-suc-gt f n b r =
     by-contra (suc n) (f _) λ h. largest-last (λ t. leb (f t) n) b (bounded-threshold r) .next-fails (le→leb (f _) n (le-of-suc-le-suc h))
+
+-- no larger number is so
+pub largest-ge : (f : ℕ → ℕ) (n b : ℕ) → Bounded f n b → {t : ℕ} → f t ≤ n → t ≤ largest (λ t. leb (f t) n) b
+largest-ge f n b r {t} h =
+    let threshold = bounded-threshold r in
+    passed-le (λ t. leb (f t) n) (threshold .below) (le→leb (f t) n h) (largest-last (λ t. leb (f t) n) b threshold)
 
 pub largest-eq : (f : ℕ → ℕ) (n b : ℕ) → Bounded f n b → {t : ℕ} → f t ≤ n → n < f (suc t) → t ≡ largest (λ t. leb (f t) n) b
 largest-eq f n b r {t} h k =

@@ -1,14 +1,18 @@
 -- The laws of a sum over j = 0 .. n − 1: sums and differences of summands, a constant factor, and a bound.
--- Assumes nothing.
 use mathlib.Core.Path.{_≡_, refl, sym, _∙_, ap}
 use mathlib.Core.List.{[], _∷_}
-use Prim.Native.Nat.{ℕ, zero, suc, _+_, _*_, _≤_, _<_}
+use Prim.Native.Nat.{ℕ, zero, suc, _*_, _^_, _≤_, _<_}
 use native.Mathlib.Nat.{le-refl, le-step, le-trans, add-le-add}
 use native.Mathlib.Omega.{arith}
-use lib.IntN.{ℤ, negℤ, natAbs, _+ℤ_, _-ℤ_, _*ℤ_, *ℤ-zero, negℤ-+ℤ}
+use lib.IntN.{ℤ, pos, negℤ, natAbs, _+ℤ_, _-ℤ_, _*ℤ_, *ℤ-zero, negℤ-+ℤ}
 use Rattle.algebra.specs.Sums.{sumTo}
 use Rattle.algebra.proofs.Integer.{*ℤ-+ℤ, natAbs-+ℤ-le}
 use Rattle.algebra.proofs.Ring.{variable, _⊕_, ring}
+
+-- 1 + 2 + 4 + 8
+powers-worked : sumTo 4 (λ j. pos (2 ^ j)) ≡ pos 15
+unfolding sumTo
+powers-worked = refl
 
 -- the sum of sums is taken summand by summand
 pub sumTo-+ℤ : (n : ℕ) (f g : ℕ → ℤ) → sumTo n (λ j. f j +ℤ g j) ≡ sumTo n f +ℤ sumTo n g

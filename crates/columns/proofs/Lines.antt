@@ -1,5 +1,5 @@
--- The listing's columns fit, a line has 40 bytes, and the whole listing at most 1,640.
-use mathlib.Core.Bool.{Bool, true, false, cond}
+-- The listing's columns fit, a line has 40 bytes, and the whole listing 80 to 1,640.
+use mathlib.Core.Bool.{Bool, true, false, cond, and-false}
 use mathlib.Core.List.{List, []}
 use mathlib.Core.Path.{_≡_, refl}
 use Prim.Native.Nat.{ℕ, zero, suc, _*_, _^_, _≤_, _<_}
@@ -62,3 +62,16 @@ module _ (group subgroup smoothed : List ℕ) (g : Values group) (s : Values sub
   pub listing-length-le : length (listingText group subgroup smoothed) ≤ listingRoom
   unfolding listingText
   listing-length-le = rw length-append (omega (arith, header-length, length-orders-le orderCount (omega arith)))
+
+  -- order 1 is never left out
+  length-orders-ge : (n : ℕ) → lineLength ≤ length (ordersText (suc n) group subgroup smoothed)
+  unfolding ordersText orderText leftOut
+  length-orders-ge zero =
+      let first = length-line 1 (getD group 0 0) (getD subgroup 0 0) (getD smoothed 0 0) (omega arith) (g 0) (s 0) (m 0) in
+      simp and-false (omega (arith, first))
+  length-orders-ge (suc n) = rw length-append (omega (arith, length-orders-ge n))
+
+  -- the header and a line, to the header and 40 lines
+  pub listing-length : (80 ≤ length (listingText group subgroup smoothed)) × (length (listingText group subgroup smoothed) ≤ 1640)
+  unfolding listingText
+  listing-length = (rw length-append (omega (arith, header-length, length-orders-ge 39)), listing-length-le)

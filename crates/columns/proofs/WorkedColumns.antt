@@ -1,14 +1,14 @@
--- Worked columns of 8 bytes, those of document 01's case 10 first, and computed theorems over the rows.
+-- Worked columns, those of document 01's case 10 first, with the whole answers of "column read" and "column write", and computed theorems over the rows.
 use mathlib.Core.List.{List, [], _∷_, map}
 use mathlib.Core.Option.{Option, none, some, Option·map}
 use mathlib.Core.Path.{_≡_, refl}
 use Prim.Native.String.{String}
 use Prim.Native.Nat.{ℕ}
 use lib.IntN.{ℤ, pos, negsuc}
-use lib.ListN.{replicate}
 use Rattle.columns.specs.Text.{bytesOf, rightJustified}
 use Rattle.columns.specs.Column.{decimalWithin, decimalText, numberText, fitsColumn, columnText, isDigit, areDigits, isWhole, placeValue, wholeNumber, negativeNumber, signedNumber, afterBlanks, columnNumber}
-use Rattle.columns.specs.Calls.{writeFault, columnWriteFault}
+use Rattle.columns.specs.Calls.{columnReadOf, writeFault, columnWriteFault, columnWritten}
+use Rattle.columns.specs.declared.Number.{Number}
 
 record Case : Type 0 where
   text : String
@@ -31,11 +31,19 @@ cases =
     ∷ record { text = "     --7"; number = none }
     ∷ record { text = "     -07"; number = none }
     ∷ record { text = "     100"; number = some (pos 100) }
+    -- a byte too few, and one too many
+    ∷ record { text = "     -7"; number = none }
+    ∷ record { text = "       -7"; number = none }
     ∷ []
 
--- each text reads as its number, or as none
-readings : map (λ c. columnNumber (bytesOf (c .text))) cases ≡ map (λ c. c .number) cases
-unfolding bytesOf columnNumber signedNumber afterBlanks negativeNumber wholeNumber isWhole isDigit placeValue areDigits
+-- what is answered: a number, or 13 with 0
+abbrev answered : Option ℤ → Number
+answered none = record { refusal = 13; value = pos 0 }
+answered (some z) = record { refusal = 0; value = z }
+
+-- each text reads as its number, or is refused
+readings : map (λ c. columnReadOf (bytesOf (c .text))) cases ≡ map (λ c. answered (c .number)) cases
+unfolding bytesOf columnReadOf columnNumber signedNumber afterBlanks negativeNumber wholeNumber isWhole isDigit placeValue areDigits
 readings = refl
 
 -- and each number has its text
@@ -44,24 +52,30 @@ texts : map (λ c. Option·map (columnText 8) (c .number)) cases
 unfolding bytesOf columnText numberText decimalText decimalWithin rightJustified
 texts = refl
 
--- the faults of a column that is written: a buffer of so many bytes, a number, and the refusal
+-- a column that is written: the buffer, a number, the refusal, and the buffer afterwards
 record Writing : Type 0 where
-  bytes : ℕ
+  buffer : String
   number : ℤ
   refusal : ℕ
+  after : String
 
 abbrev writings : List Writing
 writings =
-    record { bytes = 8; number = pos 99999999; refusal = 0 }
-    ∷ record { bytes = 8; number = pos 100000000; refusal = 13 }
-    ∷ record { bytes = 8; number = negsuc 9999998; refusal = 0 }
-    ∷ record { bytes = 8; number = negsuc 9999999; refusal = 13 }
-    ∷ record { bytes = 8; number = negsuc 9223372036854775807; refusal = 13 }
-    ∷ record { bytes = 7; number = pos 0; refusal = 14 }
-    ∷ record { bytes = 9; number = pos 0; refusal = 14 }
-    ∷ record { bytes = 9; number = pos 100000000; refusal = 14 }
+    record { buffer = "????????"; number = pos 99999999; refusal = 0; after = "99999999" }
+    ∷ record { buffer = "????????"; number = negsuc 6; refusal = 0; after = "      -7" }
+    ∷ record { buffer = "????????"; number = negsuc 9999998; refusal = 0; after = "-9999999" }
+    ∷ record { buffer = "????????"; number = pos 100000000; refusal = 13; after = "????????" }
+    ∷ record { buffer = "????????"; number = negsuc 9999999; refusal = 13; after = "????????" }
+    ∷ record { buffer = "????????"; number = negsuc 9223372036854775807; refusal = 13; after = "????????" }
+    ∷ record { buffer = "???????"; number = pos 0; refusal = 14; after = "???????" }
+    ∷ record { buffer = "?????????"; number = pos 0; refusal = 14; after = "?????????" }
+    ∷ record { buffer = "?????????"; number = pos 100000000; refusal = 14; after = "?????????" }
     ∷ []
 
-faults : map (λ c. columnWriteFault (replicate (c .bytes) 0) (c .number)) writings ≡ map (λ c. c .refusal) writings
-unfolding writeFault fitsColumn numberText decimalText decimalWithin
+faults : map (λ c. columnWriteFault (bytesOf (c .buffer)) (c .number)) writings ≡ map (λ c. c .refusal) writings
+unfolding bytesOf writeFault fitsColumn numberText decimalText decimalWithin
 faults = refl
+
+written : map (λ c. columnWritten (bytesOf (c .buffer)) (c .number)) writings ≡ map (λ c. bytesOf (c .after)) writings
+unfolding bytesOf writeFault fitsColumn columnText rightJustified numberText decimalText decimalWithin
+written = refl

@@ -1,16 +1,20 @@
--- Worked listings, computed: document 01's own, where all values are zero, and one with the least and the greatest values; the line for a refusal; and the room that a listing asks for.
+-- Worked listings, computed: document 01's own, where all values are zero, and one with the least and the greatest values; and the whole answers of the calls that write a listing and the line for a refusal.
 use mathlib.Core.List.{List, [], _∷_, _++_, map}
 use mathlib.Core.Path.{_≡_, refl}
 use Prim.Native.Nat.{ℕ}
+use Prim.Native.String.{String}
 use lib.ListN.{replicate}
-use Rattle.refusals.specs.Numbers.{noRefusal, wrongBufferLength}
+use Rattle.refusals.specs.declared.Answer.{Answer}
 use Rattle.columns.specs.Text.{bytesOf, rightJustified}
-use Rattle.columns.specs.Column.{decimalWithin, decimalText, numberText, columnText}
+use Rattle.columns.specs.Column.{decimalWithin, decimalText, numberText, fitsColumn, columnText}
 use Rattle.columns.specs.Listing.{header, orderLine, leftOut, orderText, ordersText, listingText, refusalLine}
-use Rattle.columns.specs.Calls.{listingFault}
+use Rattle.columns.specs.Calls.{writeFault, refusalLineFault, refusalLineWritten, listingFault, listingAnswer, listingWritten}
 
-zeros : listingText (replicate 40 0) (replicate 40 0) (replicate 40 0)
-    ≡ bytesOf "  h       group    subgroup    smoothed\n  1           0           0           0\n"
+abbrev zerosText : List ℕ
+zerosText =
+    bytesOf "  h       group    subgroup    smoothed\n  1           0           0           0\n"
+
+zeros : listingText (replicate 40 0) (replicate 40 0) (replicate 40 0) ≡ zerosText
 unfolding listingText ordersText orderText leftOut orderLine header columnText rightJustified numberText decimalText decimalWithin bytesOf
 zeros = refl
 
@@ -20,14 +24,60 @@ edges : listingText (1 ∷ 0 ∷ 4294967295 ∷ replicate 37 0) (0 ∷ 8944 ∷ 
 unfolding listingText ordersText orderText leftOut orderLine header columnText rightJustified numberText decimalText decimalWithin bytesOf
 edges = refl
 
-refused : refusalLine 13 ≡ bytesOf "refused 13\n"
-unfolding refusalLine columnText rightJustified numberText decimalText decimalWithin bytesOf
-refused = refl
+-- ---- the whole answers: the refusal, and the buffer afterwards
 
--- the bytes of a buffer, and the refusal
-abbrev rooms : List (ℕ × ℕ)
-rooms = (1639, wrongBufferLength) ∷ (1640, noRefusal) ∷ (1641, noRefusal) ∷ []
+-- a line for a refusal: the buffer, the number that the line is of, the refusal, and the buffer afterwards
+record Writing : Type 0 where
+  buffer : String
+  number : ℕ
+  refusal : ℕ
+  after : String
 
-rooms-worked : map (λ c. listingFault (replicate (c .0) 0)) rooms ≡ map (λ c. c .1) rooms
-unfolding listingFault
-rooms-worked = refl
+abbrev writings : List Writing
+writings =
+    record { buffer = "???????????"; number = 13; refusal = 0; after = "refused 13\n" }
+    ∷ record { buffer = "???????????"; number = 1; refusal = 0; after = "refused  1\n" }
+    ∷ record { buffer = "???????????"; number = 1000; refusal = 13; after = "???????????" }
+    ∷ record { buffer = "??????????"; number = 13; refusal = 14; after = "??????????" }
+    ∷ record { buffer = "????????????"; number = 1000; refusal = 14; after = "????????????" }
+    ∷ []
+
+writings-refusals : map (λ c. refusalLineFault (bytesOf (c .buffer)) (c .number)) writings ≡ map (λ c. c .refusal) writings
+unfolding bytesOf writeFault fitsColumn numberText decimalText decimalWithin
+writings-refusals = refl
+
+writings-written : map (λ c. refusalLineWritten (bytesOf (c .buffer)) (c .number)) writings ≡ map (λ c. bytesOf (c .after)) writings
+unfolding bytesOf writeFault fitsColumn refusalLine columnText rightJustified numberText decimalText decimalWithin
+writings-written = refl
+
+-- a listing of zeros: so many bytes of a buffer, the refusal with the count of bytes written, and the buffer afterwards
+record Room : Type 0 where
+  bytes : ℕ
+  answered : Answer
+  after : List ℕ
+
+-- 63 is the byte of a question mark
+abbrev marks : ℕ → List ℕ
+marks bytes = replicate bytes 63
+
+abbrev room : ℕ → ℕ → ℕ → List ℕ → Room
+room bytes refusal count after =
+    record { bytes = bytes; answered = record { refusal = refusal; value = count }; after = after }
+
+abbrev rooms : List Room
+rooms =
+    room 0 14 0 [] ∷
+    room 1639 14 0 (marks 1639) ∷
+    room 1640 0 80 (zerosText ++ marks 1560) ∷
+    room 1641 0 80 (zerosText ++ marks 1561) ∷
+    []
+
+rooms-answered : map (λ c. listingAnswer (marks (c .bytes)) (replicate 40 0) (replicate 40 0) (replicate 40 0)) rooms
+    ≡ map (λ c. c .answered) rooms
+unfolding listingFault listingText ordersText orderText leftOut orderLine header columnText rightJustified numberText decimalText decimalWithin bytesOf
+rooms-answered = refl
+
+rooms-written : map (λ c. listingWritten (marks (c .bytes)) (replicate 40 0) (replicate 40 0) (replicate 40 0)) rooms
+    ≡ map (λ c. c .after) rooms
+unfolding listingFault listingWritten listingText ordersText orderText leftOut orderLine header columnText rightJustified numberText decimalText decimalWithin bytesOf
+rooms-written = refl

@@ -1,25 +1,27 @@
--- The edges of the refusal table's rows "fresh record" and "add row" and of their order, and of soundness, each a table of rows and one computed theorem over it.
--- Assumes nothing.
+-- The edges of the refusal table's rows "fresh record" and "add row" and of their order with the whole answers, and of soundness, each a table of rows and one computed theorem over it.
 use mathlib.Core.Bool.{Bool, true, false}
 use mathlib.Core.List.{List, [], _∷_, _++_, map}
 use mathlib.Core.Path.{_≡_, refl}
-use Prim.Native.Nat.{ℕ, _+_, _*_}
+use Prim.Native.Nat.{ℕ}
 use lib.ListN.{replicate}
-use Rattle.algebra.specs.Lists.{anyOf}
-use Rattle.refusals.specs.Numbers.{noRefusal, unknownSystem, unsoundRecord, otherSystem, recordFull}
+use Rattle.algebra.specs.Lists.{tabulate, anyOf}
+use Rattle.algebra.specs.Rounding.{nearest}
 use Rattle.groups.specs.Group.{isSystem}
 use Rattle.observation.specs.declared.Observation.{Observation}
-use Rattle.observation.specs.Soundness.{mostWindows, largestValue, noneAbove, allZero, isSound}
-use Rattle.observation.specs.Calls.{freshRefusal, rowChecks, addRowRefusal}
+use Rattle.observation.specs.declared.Recorded.{Recorded}
+use Rattle.observation.specs.Book.{smoothedNext, bookStep}
+use Rattle.observation.specs.Smoothing.{smoothedValue}
+use Rattle.observation.specs.Soundness.{noneAbove, allZero, isSound}
+use Rattle.observation.specs.Calls.{emptyRecord, freshRefusal, freshAnswer, bookAt, nextBook, withRow, rowChecks, addRowRefusal, addRowAnswer}
 
 -- ---- soundness
 
 -- the numbers of the orders, of which only the last is not 0
-only : ℕ → List ℕ
+abbrev only : ℕ → List ℕ
 only last = replicate 39 0 ++ (last ∷ [])
 
 -- a record with the numbers of its last order
-observed : ℕ → ℕ → ℕ → ℕ → ℕ → Observation
+abbrev observed : ℕ → ℕ → ℕ → ℕ → ℕ → Observation
 observed system windows smoothed sum peak =
     record { system = system; windows = windows; smoothed = only smoothed; sum = only sum; peak = only peak }
 
@@ -30,13 +32,13 @@ records =
     (observed 12 0 0 0 0, true) ∷
     (observed 11 0 0 0 0, false) ∷
     -- the largest numbers, and one more of each
-    (observed 10 1 largestValue largestValue largestValue, true) ∷
-    (observed 10 1 (largestValue + 1) 0 0, false) ∷
-    (observed 10 1 0 (largestValue + 1) 0, false) ∷
-    (observed 10 1 0 0 (largestValue + 1), false) ∷
-    (observed 10 mostWindows 0 (mostWindows * largestValue) 0, true) ∷
-    (observed 10 mostWindows 0 (mostWindows * largestValue + 1) 0, false) ∷
-    (observed 10 (mostWindows + 1) 0 0 0, false) ∷
+    (observed 10 1 4294967295 4294967295 4294967295, true) ∷
+    (observed 10 1 4294967296 0 0, false) ∷
+    (observed 10 1 0 4294967296 0, false) ∷
+    (observed 10 1 0 0 4294967296, false) ∷
+    (observed 10 45000 0 193273528275000 0, true) ∷
+    (observed 10 45000 0 193273528275001 0, false) ∷
+    (observed 10 45001 0 0 0, false) ∷
     -- no window means zeros
     (observed 10 0 1 0 0, false) ∷
     (observed 10 0 0 1 0, false) ∷
@@ -44,47 +46,64 @@ records =
     []
 
 records-worked : map (λ c. isSound (c .0)) records ≡ map (λ c. c .1) records
-unfolding only observed isSound isSystem noneAbove allZero anyOf
+unfolding isSound isSystem noneAbove allZero anyOf
 records-worked = refl
 
 -- ---- fresh record
 
-abbrev systems : List (ℕ × ℕ)
-systems = (10, noRefusal) ∷ (12, noRefusal) ∷ (0, unknownSystem) ∷ (11, unknownSystem) ∷ (50, unknownSystem) ∷ []
+-- a system, the refusal, and the system of the record that is answered; the rest of it is zeros
+pub record Fresh : Type 0 where
+  pub system : ℕ
+  pub answered : Recorded
 
-systems-worked : map (λ c. freshRefusal (c .0)) systems ≡ map (λ c. c .1) systems
-unfolding freshRefusal isSystem
-systems-worked = refl
+abbrev fresh : ℕ → ℕ → ℕ → Fresh
+fresh system refusal recorded =
+    record { system = system; answered = record { refusal = refusal; observation = observed recorded 0 0 0 0 } }
+
+abbrev freshRecords : List Fresh
+freshRecords = fresh 10 0 10 ∷ fresh 12 0 12 ∷ fresh 0 1 10 ∷ fresh 11 1 10 ∷ fresh 50 1 10 ∷ []
+
+freshRecords-worked : map (λ c. freshAnswer (c .system)) freshRecords ≡ map (λ c. c .answered) freshRecords
+unfolding freshAnswer emptyRecord freshRefusal isSystem
+freshRecords-worked = refl
 
 -- ---- add row
 
--- a record of so many windows with its system, the row's system, and the refusal
+-- a record, the system of a row whose last value is 8944, and what is answered
 pub record Call : Type 0 where
+  pub observation : Observation
   pub system : ℕ
-  pub windows : ℕ
-  pub rowSystem : ℕ
-  pub refusal : ℕ
+  pub answered : Recorded
 
-abbrev call : ℕ → ℕ → ℕ → ℕ → Call
-call system windows rowSystem refusal =
-    record { system = system; windows = windows; rowSystem = rowSystem; refusal = refusal }
+abbrev taken : Observation → ℕ → Observation → Call
+taken observation system after =
+    record { observation = observation; system = system; answered = record { refusal = 0; observation = after } }
+
+-- a refused row leaves the record as it was
+abbrev refused : Observation → ℕ → ℕ → Call
+refused observation system refusal =
+    record { observation = observation; system = system; answered = record { refusal = refusal; observation = observation } }
 
 abbrev calls : List Call
 calls =
-    call 10 0 10 noRefusal ∷
-    call 12 1 12 noRefusal ∷
-    call 10 1 11 unknownSystem ∷
-    call 10 1 12 otherSystem ∷
-    call 12 1 10 otherSystem ∷
-    call 10 44999 10 noRefusal ∷
-    call 10 45000 10 recordFull ∷
-    call 10 45001 10 unsoundRecord ∷
+    -- the first row; later the smoothed value is 1000/8012 of 8944 and 7012/8012 of 5, to the nearest
+    taken (observed 10 0 0 0 0) 10 (observed 10 1 8944 8944 8944) ∷
+    taken (observed 12 1 5 6 7) 12 (observed 12 2 1121 1127 1121) ∷
+    taken (observed 10 44999 5 6 9999) 10 (observed 10 45000 1121 1127 9999) ∷
+    -- each fault
+    refused (observed 10 0 5 6 7) 10 7 ∷
+    refused (observed 10 45001 5 6 7) 10 7 ∷
+    refused (observed 10 1 5 6 7) 11 1 ∷
+    refused (observed 10 1 5 6 7) 12 8 ∷
+    refused (observed 12 1 5 6 7) 10 8 ∷
+    refused (observed 10 45000 5 6 7) 10 9 ∷
     -- two faults: 7 before 1, 1 before 8, 8 before 9
-    call 11 1 11 unsoundRecord ∷
-    call 10 1 9 unknownSystem ∷
-    call 10 45000 12 otherSystem ∷
+    refused (observed 11 1 5 6 7) 11 7 ∷
+    refused (observed 10 1 5 6 7) 9 1 ∷
+    refused (observed 10 45000 5 6 7) 12 8 ∷
     []
 
-calls-worked : map (λ c. addRowRefusal (observed (c .system) (c .windows) 0 0 0) (record { system = c .rowSystem; values = replicate 40 0 })) calls ≡ map (λ c. c .refusal) calls
-unfolding only observed addRowRefusal rowChecks isSound isSystem noneAbove allZero anyOf
+calls-worked : map (λ c. addRowAnswer (c .observation) (record { system = c .system; values = only 8944 })) calls
+    ≡ map (λ c. c .answered) calls
+unfolding addRowAnswer addRowRefusal rowChecks isSound isSystem noneAbove allZero anyOf withRow tabulate nextBook bookAt bookStep smoothedNext smoothedValue nearest
 calls-worked = refl

@@ -1,13 +1,12 @@
--- The pulse of document 01, "Worked numbers": sample 0 is 1000, the rest 0, and every line is 4000000.
--- Assumes nothing.
+-- The pulse of document 01, "Worked numbers": sample 0 is 1000, the rest 0, and every line is 4000000. Beside it two samples whose lines differ, so that a line's number is worked too.
 use mathlib.Core.Bool.{false}
-use mathlib.Core.List.{List, _∷_}
-use mathlib.Core.Path.{_≡_, refl, ap}
-use Prim.Native.Nat.{ℕ, zero, suc, _+_, _<_}
+use mathlib.Core.List.{List, [], _∷_}
+use mathlib.Core.Path.{_≡_, refl}
+use Prim.Native.Nat.{ℕ, zero, suc, _+_, _*_, _<_}
 use native.Mathlib.Decide.{decLt}
 use native.Mathlib.Nat.{zero-mul}
 use native.Mathlib.Omega.{arith}
-use lib.IntN.{ℤ, pos, _*ℤ_, zero-*ℤ, +ℤ-idl, +ℤ-idr}
+use lib.IntN.{ℤ, pos, _+ℤ_, _*ℤ_, zero-*ℤ, +ℤ-idl, +ℤ-idr}
 use lib.ListN.{getD, replicate, length-replicate, getD-replicate, List·getD-eq-default}
 use Rattle.algebra.specs.Lists.{anyOf}
 use Rattle.algebra.specs.Rounding.{nearest, nearestℤ, floorOver}
@@ -26,33 +25,56 @@ pub pulse-in-range : anyOf outOfRange pulse ≡ false
 unfolding pulse anyOf outOfRange
 pulse-in-range = refl
 
-pulse-first : getD pulse 0 (pos 0) ≡ pos 1000
-unfolding pulse
-pulse-first = refl
+-- a sample 0 and a sample 3, the rest 0
+unfoldable twoSamples : ℤ → ℤ → List ℤ
+twoSamples a b = a ∷ pos 0 ∷ pos 0 ∷ b ∷ replicate 2044 (pos 0)
 
-pulse-rest : (j : ℕ) → getD pulse (suc j) (pos 0) ≡ pos 0
-unfolding pulse
-pulse-rest j = go (decLt j 2047)
-  where
-    go : Dec (j < 2047) → getD (replicate 2047 (pos 0)) j (pos 0) ≡ pos 0
-    go (yes h) = getD-replicate 2047 j (pos 0) (pos 0) h
-    go (no f) = List·getD-eq-default (replicate 2047 (pos 0)) (pos 0) {n = j} (omega (arith, length-replicate 2047 (pos 0)))
+module _ (a b : ℤ) where
+  first-four : (getD (twoSamples a b) 0 (pos 0) ≡ a) × (getD (twoSamples a b) 1 (pos 0) ≡ pos 0)
+      × (getD (twoSamples a b) 2 (pos 0) ≡ pos 0) × (getD (twoSamples a b) 3 (pos 0) ≡ b)
+  unfolding twoSamples
+  first-four = (refl, refl, refl, refl)
 
--- so a sum is its first summand
-pulse-partialSum : (wave : ℕ → ℤ) (k n : ℕ) → sumTo (suc n) (summand wave pulse k) ≡ pos 1000 *ℤ wave 0
-unfolding sumTo
-pulse-partialSum wave k zero = rw (+ℤ-idl, pulse-first, zero-mul)
-pulse-partialSum wave k (suc n) = rw (pulse-rest n, zero-*ℤ, +ℤ-idr) (pulse-partialSum wave k n)
+  rest : (j : ℕ) → getD (twoSamples a b) (suc (suc (suc (suc j)))) (pos 0) ≡ pos 0
+  unfolding twoSamples
+  rest j = go (decLt j 2044)
+    where
+      go : Dec (j < 2044) → getD (replicate 2044 (pos 0)) j (pos 0) ≡ pos 0
+      go (yes h) = getD-replicate 2044 j (pos 0) (pos 0) h
+      go (no f) = List·getD-eq-default (replicate 2044 (pos 0)) (pos 0) {n = j} (omega (arith, length-replicate 2044 (pos 0)))
 
-pulse-roundedSum : (wave : ℕ → ℤ) (k : ℕ) → roundedSum wave pulse k ≡ nearestℤ (pos 1000 *ℤ wave 0) sumScale
-unfolding roundedSum lineSum
-pulse-roundedSum wave k = ap (λ z. nearestℤ z sumScale) (pulse-partialSum wave k 2047)
+  -- so a sum is two of its summands
+  partialSum : (wave : ℕ → ℤ) (k n : ℕ) → sumTo (suc (suc (suc (suc n)))) (summand wave (twoSamples a b) k)
+      ≡ a *ℤ wave 0 +ℤ b *ℤ wave (3 * k)
+  unfolding sumTo
+  partialSum wave k zero =
+      rw (+ℤ-idl, first-four .0, first-four .1, first-four .2, first-four .3, zero-mul) (simp (zero-*ℤ, +ℤ-idr))
+  partialSum wave k (suc n) = rw (rest n, zero-*ℤ, +ℤ-idr) (partialSum wave k n)
+
+  twoSamples-line : (k : ℕ) → lineOf (twoSamples a b) k
+      ≡ square (nearestℤ (a *ℤ tableCosine 0 +ℤ b *ℤ tableCosine (3 * k)) sumScale)
+      + square (nearestℤ (a *ℤ tableSine 0 +ℤ b *ℤ tableSine (3 * k)) sumScale)
+  unfolding lineOf roundedSum lineSum
+  twoSamples-line k = rw (partialSum tableCosine k 2044, partialSum tableSine k 2044)
 
 -- A is 1000 × 2^30 / 2^29, and B is 0
 pulse-squares : square (nearestℤ (pos 1000 *ℤ tableCosine 0) sumScale) + square (nearestℤ (pos 1000 *ℤ tableSine 0) sumScale) ≡ 4000000
 unfolding square nearestℤ floorOver tableCosine tableSine overTurn overHalf tableEntry nearest quarterSine added takenAway term factorial denominator
 pulse-squares = refl
 
+pulse-is : pulse ≡ twoSamples (pos 1000) (pos 0)
+unfolding pulse twoSamples
+pulse-is = refl
+
 pub pulse-line : (k : ℕ) → lineOf pulse k ≡ 4000000
-unfolding lineOf
-pulse-line k = rw (pulse-roundedSum tableCosine k, pulse-roundedSum tableSine k) pulse-squares
+pulse-line k = rw (pulse-is, twoSamples-line) (simp (zero-*ℤ, +ℤ-idr) pulse-squares)
+
+-- 1000 at the samples 0 and 3, whose spectrum is not flat
+abbrev pair : List ℤ
+pair = twoSamples (pos 1000) (pos 1000)
+
+-- line k has the angle 3k
+pair-lines : lineOf pair 0 ∷ lineOf pair 1 ∷ lineOf pair 100 ∷ lineOf pair 256 ∷ lineOf pair 511 ∷ []
+    ≡ 16000000 ∷ 16000324 ∷ 12844985 ∷ 2342792 ∷ 7928324 ∷ []
+unfolding square nearestℤ floorOver tableCosine tableSine overTurn overHalf tableEntry nearest quarterSine added takenAway term factorial denominator
+pair-lines = simp twoSamples-line

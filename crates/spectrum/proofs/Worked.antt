@@ -1,14 +1,12 @@
--- The edges of the refusal table's row "spectrum" and of its order, worked on the definition.
--- Assumes nothing.
+-- The edges of the refusal table's row "spectrum" and of its order, worked on the definitions: the number, and what a refused call leaves in its buffer.
 use mathlib.Core.List.{List, [], _∷_, map}
 use mathlib.Core.Path.{_≡_, refl}
 use Prim.Native.Nat.{ℕ, _-_, _^_}
 use lib.IntN.{ℤ, pos, negsuc}
 use lib.ListN.{replicate}
 use Rattle.algebra.specs.Lists.{anyOf}
-use Rattle.refusals.specs.Numbers.{noRefusal, shortWindow, wrongLineCount, sampleOutOfRange}
 use Rattle.spectrum.specs.Line.{windowAt}
-use Rattle.spectrum.specs.Spectrum.{outOfRange, spectrumRefusal}
+use Rattle.spectrum.specs.Spectrum.{outOfRange, spectrumRefusal, spectrumBuffer}
 
 -- a recording, a start, the length of the buffer, and the refusal
 pub record Case : Type 0 where
@@ -21,28 +19,51 @@ abbrev case : List ℤ → ℕ → ℕ → ℕ → Case
 case recording start room refusal =
     record { recording = recording; start = start; room = room; refusal = refusal }
 
-abbrev pub cases : List Case
-cases =
-    -- the largest and the smallest sample, and one more
-    case (replicate 2048 (pos 131071)) 0 512 noRefusal ∷
-    case (replicate 2048 (negsuc 131070)) 0 512 noRefusal ∷
-    case (replicate 2048 (pos 131072)) 0 512 sampleOutOfRange ∷
-    case (replicate 2048 (negsuc 131071)) 0 512 sampleOutOfRange ∷
-    -- the window ends with the recording, and past it
-    case (replicate 2049 (pos 0)) 1 512 noRefusal ∷
-    case (replicate 2049 (pos 0)) 2 512 shortWindow ∷
-    case (replicate 2049 (pos 0)) (2 ^ 64 - 1) 512 shortWindow ∷
+abbrev taken : List Case
+taken =
+    -- the largest and the smallest sample
+    case (replicate 2048 (pos 131071)) 0 512 0 ∷
+    case (replicate 2048 (negsuc 131070)) 0 512 0 ∷
+    -- the window ends with the recording
+    case (replicate 2049 (pos 0)) 1 512 0 ∷
     -- a sample before the window, which is not looked at
-    case (pos 131072 ∷ replicate 2048 (pos 0)) 1 512 noRefusal ∷
-    -- a line too few, and one too many
-    case (replicate 2048 (pos 0)) 0 511 wrongLineCount ∷
-    case (replicate 2048 (pos 0)) 0 513 wrongLineCount ∷
-    -- two faults: the earlier in the row decides
-    case (replicate 2047 (pos 0)) 0 511 shortWindow ∷
-    case (replicate 2048 (pos 131072)) 0 511 wrongLineCount ∷
-    case (replicate 2047 (pos 131072)) 0 512 shortWindow ∷
+    case (pos 131072 ∷ replicate 2048 (pos 0)) 1 512 0 ∷
     []
 
-cases-worked : map (λ c. spectrumRefusal (c .recording) (c .start) (replicate (c .room) 0)) cases ≡ map (λ c. c .refusal) cases
+abbrev refused : List Case
+refused =
+    -- a sample one larger than the largest, and one smaller than the smallest
+    case (replicate 2048 (pos 131072)) 0 512 3 ∷
+    case (replicate 2048 (negsuc 131071)) 0 512 3 ∷
+    -- the window ends past the recording
+    case (replicate 2049 (pos 0)) 2 512 2 ∷
+    case (replicate 2049 (pos 0)) (2 ^ 64 - 1) 512 2 ∷
+    -- a line too few, and one too many
+    case (replicate 2048 (pos 0)) 0 511 4 ∷
+    case (replicate 2048 (pos 0)) 0 513 4 ∷
+    -- two faults: the earlier in the row decides
+    case (replicate 2047 (pos 0)) 0 511 2 ∷
+    case (replicate 2048 (pos 131072)) 0 511 4 ∷
+    case (replicate 2047 (pos 131072)) 0 512 2 ∷
+    []
+
+-- what each call is lent
+abbrev sevens : Case → List ℕ
+sevens c = replicate (c .room) 7
+
+-- the refusal, and the buffer after the call
+abbrev called : Case → ℕ × List ℕ
+called c =
+    (spectrumRefusal (c .recording) (c .start) (sevens c), spectrumBuffer (c .recording) (c .start) (sevens c))
+
+taken-worked : map (λ c. called c .0) taken ≡ map (λ c. c .refusal) taken
 unfolding spectrumRefusal windowAt anyOf outOfRange
-cases-worked = refl
+taken-worked = refl
+
+-- a refused call leaves what it was lent
+abbrev expected : Case → ℕ × List ℕ
+expected c = (c .refusal, sevens c)
+
+refused-worked : map called refused ≡ map expected refused
+unfolding spectrumRefusal spectrumBuffer windowAt anyOf outOfRange
+refused-worked = refl

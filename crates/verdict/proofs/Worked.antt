@@ -1,20 +1,21 @@
--- The worked numbers of the limits and of the verdicts (document 01, case •9, the edges, and each two neighbouring refusals in one call), each a table of rows and one computed theorem over it.
+-- The worked numbers of the limits, of the verdicts (document 01, case •9, the edges, and each two neighbouring refusals in one call) and of their cases, each a table of rows and one computed theorem over it.
 use mathlib.Core.Path.{_≡_, refl}
 use mathlib.Core.List.{List, [], _∷_, map}
 use Prim.Native.Nat.{ℕ, _-_}
 use lib.ListN.{replicate, set}
 use Rattle.algebra.specs.Fraction.{whole, scale, divide, _+ᶠ_}
 use Rattle.algebra.specs.Lists.{anyOf}
-use Rattle.groups.specs.Group.{orderCount, isSystem}
+use Rattle.groups.specs.Group.{isSystem}
 use Rattle.observation.specs.declared.Observation.{Observation}
 use Rattle.observation.specs.Soundness.{noneAbove, allZero, isSound}
 use Rattle.observation.specs.Calls.{emptyRecord}
+use Rattle.verdict.specs.declared.Verdict.{Verdict}
 use Rattle.verdict.specs.declared.Verdict.the-variants.{Within, Close, Over}
 use Rattle.verdict.specs.declared.Answered.{Answered}
 use Rattle.verdict.specs.declared.Answered.the-variants.{Given, Refused}
 use Rattle.verdict.specs.Limit.{ownFigures, overOrder, figureIn, limitOf}
 use Rattle.verdict.specs.Tests.{limitInUnits, peakLimitInUnits, isWithin, isOver}
-use Rattle.verdict.specs.Call.{averageOf, peakOf, combined, verdictOf, verdictRefusal, verdictAnswer}
+use Rattle.verdict.specs.Call.{averageOf, peakOf, combined, verdictOf, verdictRefusal, verdictAnswer, refusalNumber, orderNumber}
 
 -- ---- the limits
 
@@ -57,7 +58,7 @@ limits-worked = refl
 
 -- the numbers of one order, and zeros at every other
 only : ℕ → ℕ → List ℕ
-only order value = set (replicate orderCount 0) (order - 1) value
+only order value = set (replicate 40 0) (order - 1) value
 
 -- a record of some windows with the sum and the peak of one order
 observed : ℕ → ℕ → ℕ → ℕ → Observation
@@ -120,3 +121,29 @@ verdictCases =
 verdicts-worked : map (λ row. verdictAnswer (row .observation) (row .order) (row .unitsPerAmpere)) verdictCases ≡ map (λ row. row .answer) verdictCases
 unfolding verdictCases only observed oneWindow unsound emptyRecord isSystem anyOf noneAbove allZero isSound whole scale divide _+ᶠ_ limitOf figureIn ownFigures overOrder limitInUnits peakLimitInUnits isWithin isOver averageOf peakOf combined verdictOf verdictRefusal verdictAnswer
 verdicts-worked = refl
+
+-- ---- the numbers of the cases
+
+-- an answer, and its number: "a refused verdict: the number alone"
+abbrev numbers : List (Answered × ℕ)
+numbers =
+    (Given (Within 3), 0) ∷
+    (Given (Close 3), 0) ∷
+    (Given (Over 3), 0) ∷
+    (Refused 6, 6) ∷
+    (Refused 7, 7) ∷
+    (Refused 10, 10) ∷
+    (Refused 11, 11) ∷
+    []
+
+numbers-worked : map (λ c. refusalNumber (c .0)) numbers ≡ map (λ c. c .1) numbers
+unfolding refusalNumber
+numbers-worked = refl
+
+-- a verdict, and the order that it carries
+abbrev orders : List (Verdict × ℕ)
+orders = (Within 2, 2) ∷ (Close 39, 39) ∷ (Over 40, 40) ∷ []
+
+orders-worked : map (λ c. orderNumber (c .0)) orders ≡ map (λ c. c .1) orders
+unfolding orderNumber
+orders-worked = refl
