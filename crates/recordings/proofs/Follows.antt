@@ -39,6 +39,7 @@ use Rattle.recordings.specs.Blocks.{joined, readingAfter, AllWhole, Whol
 use Rattle.recordings.proofs.NumberOnLine.{number-of-cut}
 use Rattle.recordings.proofs.FirstLine.{first-line-fault}
 use Rattle.recordings.proofs.BlockLaws.{lines-of-whole, lines-of-short, block-of-refused, block-of-none, block-of-fault, block-of-short, block-of-whole}
+use Rattle.recordings.proofs.WindowAdded.{answer-with-row, windows-of-with}
 use Rattle.recordings.proofs.TextLines.{linesTo, fullAt, system-of-front, record-of-front, window-after}
 use Rattle.recordings.proofs.WindowFaults.{faults-stay, faults-of-window, faults-of-short, short-lines, lines-fault-le, faults-le}
 use Rattle.recordings.proofs.Output.{finish-of-refused, finish-of-none, finish-of-some, output-of-fault, output-of-none, harmlist-of-fault, harmlist-at-end, harmlist-of-none, end-without-window, end-of-windows, end-of-short}
@@ -141,17 +142,9 @@ not-full w e = by-count (decLe mostWindows w)
 groupRow : Reading → List ℕ → Row
 groupRow reading block = rowOf HarmonicGroup (reading .observation .system) (samplesOf block)
 
-answer-with-row : (o : Observation) (row : Row) → addRowRefusal o row ≡ noRefusal → addRowAnswer o row .observation ≡ withRow o row
-unfolding addRowAnswer
-answer-with-row o row e = rw e
-
 system-of-with : (o : Observation) (row : Row) → withRow o row .system ≡ o .system
 unfolding withRow
 system-of-with o row = refl
-
-windows-of-with : (o : Observation) (row : Row) → withRow o row .windows ≡ o .windows + 1
-unfolding withRow
-windows-of-with o row = refl
 
 record-next : (text : List ℕ) (w : ℕ) → recordIn text (w + 1) ≡ addRowAnswer (recordIn text w) (rowOf HarmonicGroup (systemIn text) (windowIn text w)) .observation
 unfolding recordIn rowsIn
@@ -451,7 +444,7 @@ unfolding readingAfter
 refused-stays reading [] f = refl
 refused-stays reading (block ∷ blocks) f = rw (block-of-refused reading block f) (refused-stays reading blocks f)
 
-reading-of-append : (reading : Reading) (blocks more : List (List ℕ)) → readingAfter reading (blocks ++ more) ≡ readingAfter (readingAfter reading blocks) more
+pub reading-of-append : (reading : Reading) (blocks more : List (List ℕ)) → readingAfter reading (blocks ++ more) ≡ readingAfter (readingAfter reading blocks) more
 unfolding readingAfter
 reading-of-append reading [] more = refl
 reading-of-append reading (block ∷ blocks) more = reading-of-append (blockOf reading block) blocks more
