@@ -14,7 +14,7 @@ use Rattle.observation.specs.Soundness.{mostWindows}
 use Rattle.recordings.specs.declared.Reading.{Reading}
 use Rattle.recordings.specs.Lines.{lineBytes}
 use Rattle.recordings.specs.Reading.{windowBytes, blockOf, outputOf}
-use Rattle.recordings.specs.Blocks.{joined, readingAfter, AllWhole, WholeButLast, CutInBlocks}
+use Rattle.recordings.specs.Blocks.{joined, readingAfter, WholeButLast, CutInBlocks}
 use Rattle.recordings.proofs.WindowAdded.{block-added}
 use Rattle.recordings.proofs.Follows.{follows-definition, reading-of-append}
 use Rattle.harmlist.specs.declared.Input.{Input}
@@ -32,12 +32,19 @@ first-fails false b e = refl
 
 -- ---- lists of blocks
 
+-- all blocks have a window's lines
+unfoldable pub AllWhole : List (List ℕ) → Type 0
+AllWhole [] = Unit
+AllWhole (block ∷ blocks) = (length block ≡ windowBytes) × AllWhole blocks
+
 whole-and-one : (blocks : List (List ℕ)) (block : List ℕ) → AllWhole blocks → length block ≡ windowBytes → AllWhole (blocks ++ (block ∷ []))
 unfolding AllWhole
 whole-and-one [] block whole e = (e, tt)
 whole-and-one (first ∷ blocks) block whole e = (whole .0, whole-and-one blocks block (whole .1) e)
 
-whole-and-last : (blocks : List (List ℕ)) (block : List ℕ) → AllWhole blocks → length block ≤ windowBytes → WholeButLast (blocks ++ (block ∷ []))
+whole-and-last :
+    (blocks : List (List ℕ)) (block : List ℕ) → AllWhole blocks → length block ≤ windowBytes →
+    WholeButLast (blocks ++ (block ∷ []))
 unfolding AllWhole WholeButLast
 whole-and-last [] block whole le = le
 whole-and-last (first ∷ []) block whole le = (whole .0, le)
@@ -49,7 +56,9 @@ whole-but-last [] whole = tt
 whole-but-last (first ∷ []) whole = omega (arith, whole .0)
 whole-but-last (first ∷ next ∷ blocks) whole = (whole .0, whole-but-last (next ∷ blocks) (whole .1))
 
-reading-and-one : (first : Reading) (blocks : List (List ℕ)) (block : List ℕ) → readingAfter first (blocks ++ (block ∷ [])) ≡ blockOf (readingAfter first blocks) block
+reading-and-one :
+    (first : Reading) (blocks : List (List ℕ)) (block : List ℕ) →
+    readingAfter first (blocks ++ (block ∷ [])) ≡ blockOf (readingAfter first blocks) block
 unfolding readingAfter
 reading-and-one first blocks block = reading-of-append first blocks (block ∷ [])
 
@@ -113,7 +122,8 @@ module _ (first reading : Reading) (so-far : SoFar first reading) where
         where
           by-refusal : Dec (input .reading .refusal ≡ noRefusal) → blocksLeft (input .reading) < blocksLeft reading
           by-refusal (yes z) =
-              let after : blockOf reading (read .block) .refusal ≡ noRefusal = sym (ap (λ (r : Reading). r .refusal) (read .reading-is)) ∙ z in
+              let after : blockOf reading (read .block) .refusal ≡ noRefusal =
+              sym (ap (λ (r : Reading). r .refusal) (read .reading-is)) ∙ z in
               let added = block-added reading (read .block) (λ none. omega (arith, is-whole)) after in
               let windows = ap (λ (r : Reading). r .observation .windows) (read .reading-is) in
               rw (eq-eqb (reading .refusal) noRefusal e, eq-eqb (input .reading .refusal) noRefusal z)
@@ -124,7 +134,9 @@ module _ (first reading : Reading) (so-far : SoFar first reading) where
 
 module _ (line : Input) (read : LineRead line) where
   -- the blocks after the line give what harmlist writes
-  text-read : (input : Input) (blocks : List (List ℕ)) → CutInBlocks (read .line) blocks → input .reading ≡ readingAfter (line .reading) blocks → Ends input → TextRead input
+  text-read :
+      (input : Input) (blocks : List (List ℕ)) → CutInBlocks (read .line) blocks →
+      input .reading ≡ readingAfter (line .reading) blocks → Ends input → TextRead input
   text-read input blocks cut after ends = record {
     text = read .line ++ joined blocks;
     output-is =

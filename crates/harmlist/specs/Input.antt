@@ -1,4 +1,4 @@
--- What harmlist's reading of its input answers. Of the bytes that a read gives nothing is known but how many they are; of what they are read as, everything.
+-- What harmlist's reading of its input answers. No contract of the system's read says which bytes come, so they are some bytes here; what they are read as is defined.
 use mathlib.Core.Bool.{true}
 use mathlib.Core.List.{List}
 use mathlib.Core.Logic.{_⊎_}
@@ -32,14 +32,14 @@ pub record BlockRead (before : Reading) (input : Input) : Type 0 where
 abbrev pub Ends : Input → Type 0
 Ends input = (input .reading .refusal ≡ noRefusal → ⊥) ⊎ ((input .short ≡ true) ⊎ (input .failed ≡ true))
 
--- blocks were read until the input ends
+-- blocks were read, whole but for the last
 pub record BlocksRead (first : Reading) (input : Input) : Type 0 where
   pub blocks : List (List ℕ)
   pub cut : WholeButLast blocks
   pub reading-is : input .reading ≡ readingAfter first blocks
   pub ends : Ends input
 
--- a text was read until the input ends, and what its reading writes is what harmlist writes for it
+-- a text was read, and what its reading writes is what harmlist writes for it
 pub record TextRead (input : Input) : Type 0 where
   pub text : List ℕ
   pub output-is : outputOf (input .reading) ≡ harmlistOutput text

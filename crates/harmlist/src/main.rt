@@ -4,11 +4,11 @@
 // window's lines at a time. A read or a write that fails ends in a line on standard error, and no
 // listing is written after a read that failed.
 //
-// Proved: the bytes that it has read when it stops reading give what document 01 says of them, and
-// it stops reading only where the reading is refused, where fewer bytes came than were asked for, or
-// where a read failed (specs/Input.antt). What is after a refusal does not matter
-// (recordings/specs/Blocks.antt). Not proved, but tested: that these bytes are the input's, that
-// fewer come at its end only, and that they are written.
+// Proved: it stops reading only where the reading is refused, where fewer bytes came than were asked
+// for, or where a read failed; where none failed, it hands `finish` a reading that gives what
+// document 01 says of the bytes that were read (specs/Input.antt). What comes after a refusal does
+// not matter (recordings/specs/Blocks.antt). Assumed of `read` is only how many bytes it answers: that
+// these are the input's, that fewer come at its end alone, and that the output is written, is tested.
 use columns::LISTING_ROOM;
 use libc::EAGAIN;
 use libc::EINTR;
@@ -22,6 +22,8 @@ use recordings::begin;
 use recordings::finish;
 use recordings::take_block;
 use refusals::NO_REFUSAL;
+ghost use mathlib.Core.Bool.{false};
+ghost use mathlib.Core.Path.{_≡_};
 ghost use Prim.Native.Nat.{_≤_};
 ghost use lib.ListN.{length};
 ghost use Rattle.io.specs.Counts.{Counts};
@@ -159,10 +161,13 @@ fn read_input() -> Input
     read_blocks(line.reading)
 }
 
-// Writes what was read as: the listing, or the line for a refusal.
-fn write_output(reading: Reading) {
+// Writes the listing of an input, or the line for its refusal. No read of it may have failed.
+fn write_output(input: Input)
+    requires { ⌜ TextRead input ⌝ }
+    requires { ⌜ input .failed ≡ false ⌝ }
+{
     let mut output = [0u8; LISTING_ROOM];
-    let answer = finish(reading, &mut output);
+    let answer = finish(input.reading, &mut output);
     let count = answer.value as usize;
     let is_written = io::write_all(STDOUT_FILENO, &output[..count]);
     if !is_written {
@@ -183,5 +188,5 @@ fn main() {
         os::fail(b"harmlist: standard input");
         return;
     }
-    write_output(input.reading);
+    write_output(input);
 }

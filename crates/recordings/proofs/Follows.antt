@@ -35,7 +35,7 @@ use Rattle.recordings.specs.Lines.{lineBytes, lineCountOf, lineAt, lineN
 use Rattle.recordings.specs.Faults.{isNone, noSystem, lineFault, firstOf, faultBefore, endFault}
 use Rattle.recordings.specs.Output.{systemIn, windowIn, windowCount, rowOf, rowsIn, recordIn, listingFor, harmlistOutput}
 use Rattle.recordings.specs.Reading.{windowBytes, beginOf, faultOfLines, blockLines, samplesOf, refusedWith, windowTaken, blockOf, outputOf}
-use Rattle.recordings.specs.Blocks.{joined, readingAfter, AllWhole, WholeButLast, FollowsDefinition, RefusedStays, StopsAtRefusal, RefusedWhenFull}
+use Rattle.recordings.specs.Blocks.{joined, readingAfter, WholeButLast, FollowsDefinition, RefusedStays, StopsAtRefusal}
 use Rattle.recordings.proofs.NumberOnLine.{number-of-cut}
 use Rattle.recordings.proofs.FirstLine.{first-line-fault}
 use Rattle.recordings.proofs.BlockLaws.{lines-of-whole, lines-of-short, block-of-refused, block-of-none, block-of-fault, block-of-short, block-of-whole}
@@ -454,15 +454,3 @@ stops-at-refusal first blocks more cut f =
     let after = readingAfter (beginOf first) blocks in
     ap outputOf (sym (reading-of-append (beginOf first) blocks more ∙ refused-stays after more f))
     ∙ follows-definition first (blocks ++ more) cut
-
-windows-counted : (blocks : List (List ℕ)) (p : List ℕ) (w : ℕ) (reading : Reading) → Holds p w reading → AllWhole blocks → readingAfter reading blocks .refusal ≡ noRefusal → w + length blocks ≤ mostWindows
-unfolding readingAfter AllWhole
-windows-counted [] p w reading h cut e =
-    let goes = h .goes-on e in
-    omega (arith, sound-parts (reading .observation) (goes .sound) .windows-le, goes .windows-are)
-windows-counted (block ∷ blocks) p w reading h cut e =
-    omega (arith, windows-counted blocks (p ++ block) (w + 1) (blockOf reading block) (steps p block w reading h (cut .0)) (cut .1) e)
-
-pub refused-when-full : RefusedWhenFull
-refused-when-full first blocks line whole many e =
-    omega (arith, windows-counted blocks first 0 (beginOf first) (begins first line) whole e)

@@ -31,7 +31,9 @@ abbrev pub OneMore : Reading → Reading → Type 0
 OneMore before after =
     (before .observation .windows < mostWindows) × (after .observation .windows ≡ before .observation .windows + 1)
 
-window-added : (reading : Reading) (window : List ℤ) → windowTaken reading window .refusal ≡ noRefusal → OneMore reading (windowTaken reading window)
+window-added :
+    (reading : Reading) (window : List ℤ) → windowTaken reading window .refusal ≡ noRefusal →
+    OneMore reading (windowTaken reading window)
 unfolding windowTaken addRowAnswer
 window-added reading window e =
     let o = reading .observation in
@@ -40,10 +42,14 @@ window-added reading window e =
       ap (λ (r : Observation). r .windows) (answer-with-row o row e) ∙ windows-of-with o row,
     )
 
-pub block-added : (reading : Reading) (block : List ℕ) → (length block ≡ 0 → ⊥) → blockOf reading block .refusal ≡ noRefusal → OneMore reading (blockOf reading block)
+pub block-added :
+    (reading : Reading) (block : List ℕ) → (length block ≡ 0 → ⊥) → blockOf reading block .refusal ≡ noRefusal →
+    OneMore reading (blockOf reading block)
 block-added reading block some after = by-refusal (ℕ-discrete (reading .refusal) noRefusal)
   where
-    by-length : (e : reading .refusal ≡ noRefusal) → faultOfLines block (blockLines block) ≡ noRefusal → Dec (windowBytes ≤ length block) → OneMore reading (blockOf reading block)
+    by-length :
+        (e : reading .refusal ≡ noRefusal) → faultOfLines block (blockLines block) ≡ noRefusal →
+        Dec (windowBytes ≤ length block) → OneMore reading (blockOf reading block)
     by-length e none (yes whole) =
         let same = block-of-whole reading block e some none whole in
         rw same (window-added reading (samplesOf block) (rw same at after))
@@ -52,7 +58,9 @@ block-added reading block some after = by-refusal (ℕ-discrete (reading .refusa
         let same : shortWindow ≡ noRefusal = sym short ∙ after in
         absurd (omega arith)
 
-    by-lines : (e : reading .refusal ≡ noRefusal) → Dec (faultOfLines block (blockLines block) ≡ noRefusal) → OneMore reading (blockOf reading block)
+    by-lines :
+        (e : reading .refusal ≡ noRefusal) →
+        Dec (faultOfLines block (blockLines block) ≡ noRefusal) → OneMore reading (blockOf reading block)
     by-lines e (yes none) = by-length e none (decLe windowBytes (length block))
     by-lines e (no f) =
         absurd (f (sym (ap (λ (r : Reading). r .refusal) (block-of-fault reading block e some f)) ∙ after))

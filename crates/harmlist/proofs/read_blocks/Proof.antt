@@ -20,7 +20,8 @@ read-block-requires c κs = search needs
 returns : tie.Need-returns Inv-loop μ-loop
 returns c =
     let read = c .before .before .read-block in
-    ends-with _ _ (c .before .before .before .before .before .loop .inv) (read .result) (read .ensures) (inr (one-holds (read .result .short) (read .result .failed) (c .if2 .taken)))
+    ends-with _ _ (c .before .before .before .before .before .loop .inv) (read .result) (read .ensures)
+    (inr (one-holds (read .result .short) (read .result .failed) (c .if2 .taken)))
 
 loop-less : tie.Need-loop-less Inv-loop μ-loop
 loop-less c =

@@ -23,7 +23,9 @@ array-share-prefix-output : tie.Need-array-share-prefix-output
 array-share-prefix-output c = count-le (c .before)
 
 slice-aggregate-write-all : tie.Need-slice-aggregate-write-all
-slice-aggregate-write-all c = sym (length-take-le (c .before .before .finish .result .value) (c .before .before .finish .last .1 .0) (count-le (c .before .before)))
+slice-aggregate-write-all c =
+    let finished = c .before .before in
+    sym (length-take-le (finished .finish .result .value) (finished .finish .last .1 .0) (count-le finished))
 
 write-all-requires : tie.Need-write-all-requires
 write-all-requires c κs = search needs
