@@ -13,13 +13,13 @@ use Rattle.columns.specs.Calls.{readingOf}
 use Rattle.groups.specs.Group.{isSystem}
 use Rattle.observation.specs.Calls.{freshRefusal, freshAnswer}
 use Rattle.recordings.specs.Lines.{lineAt, lineNumber, numberOr0, numberAt}
-use Rattle.recordings.specs.Faults.{isNone, noSystem, lineFault}
+use Rattle.recordings.specs.Faults.{isNone, noSystem, numberFault, lineFault}
 use Rattle.recordings.specs.Output.{systemIn}
 use Rattle.recordings.specs.Reading.{beginOf}
-use Rattle.recordings.specs.Steps.{systemWord, readingOfNone}
+use Rattle.recordings.specs.Steps.{largestSystem, systemWord, readingOfNone}
 
--- a number that is none as a system is none as a word either
-no-large-system : (n : ℕ) → 99 < n → isSystem n ≡ false
+-- a number above the largest system is none, and neither is the 0 that it is read as
+no-large-system : (n : ℕ) → largestSystem < n → isSystem n ≡ false
 unfolding isSystem
 no-large-system n h = rw (ne-eqb n 10 (λ e. omega arith), ne-eqb n 12 (λ e. omega arith))
 
@@ -29,21 +29,21 @@ zero-no-system = refl
 
 -- the fault of the first line
 pub first-line-fault : (line : List ℕ) → lineFault line 0 ≡ cond (isNone (lineNumber (lineAt line 0))) notAColumn (cond (noSystem (numberAt line 0)) unknownSystem noRefusal)
-unfolding lineFault
+unfolding lineFault numberFault numberAt
 first-line-fault line = refl
 
 module _ (line : List ℕ) where
   pub begin-without-number : lineNumber (lineAt line 0) ≡ none → readingOfNone notAColumn (freshAnswer (systemWord (pos 0)) .observation) ≡ beginOf line
-  unfolding beginOf readingOfNone lineFault isNone systemWord freshAnswer freshRefusal isSystem
+  unfolding beginOf readingOfNone lineFault numberFault isNone systemWord freshAnswer freshRefusal isSystem
   begin-without-number e = rw e
 
   pub begin-with-number : (z : ℤ) → lineNumber (lineAt line 0) ≡ some z → readingOfNone (freshAnswer (systemWord z) .refusal) (freshAnswer (systemWord z) .observation) ≡ beginOf line
-  unfolding beginOf readingOfNone lineFault isNone systemWord numberAt numberOr0 systemIn noSystem freshAnswer freshRefusal
-  begin-with-number (pos n) e = by-size (decLt 99 n)
+  unfolding beginOf readingOfNone lineFault numberFault isNone systemWord numberAt numberOr0 systemIn noSystem freshAnswer freshRefusal
+  begin-with-number (pos n) e = by-size (decLt largestSystem n)
     where
-      by-size : Dec (99 < n) → readingOfNone (freshAnswer (systemWord (pos n)) .refusal) (freshAnswer (systemWord (pos n)) .observation) ≡ beginOf line
-      by-size (yes h) = rw (e, lt-ltb 99 n h, no-large-system n h, zero-no-system)
-      by-size (no f) = rw (e, le-ltb 99 n (omega arith))
+      by-size : Dec (largestSystem < n) → readingOfNone (freshAnswer (systemWord (pos n)) .refusal) (freshAnswer (systemWord (pos n)) .observation) ≡ beginOf line
+      by-size (yes h) = rw (e, lt-ltb largestSystem n h, no-large-system n h, zero-no-system)
+      by-size (no f) = rw (e, le-ltb largestSystem n (omega arith))
   begin-with-number (negsuc n) e = rw (e, zero-no-system)
 
   -- by what the line was read as

@@ -35,10 +35,11 @@ use Rattle.recordings.specs.Lines.{lineBytes, lineCountOf, lineAt, lineN
 use Rattle.recordings.specs.Faults.{isNone, noSystem, lineFault, firstOf, faultBefore, endFault}
 use Rattle.recordings.specs.Output.{systemIn, windowIn, windowCount, rowOf, rowsIn, recordIn, listingFor, harmlistOutput}
 use Rattle.recordings.specs.Reading.{windowBytes, beginOf, faultOfLines, blockLines, samplesOf, refusedWith, windowTaken, blockOf, outputOf}
-use Rattle.recordings.specs.Blocks.{joined, readingAfter, AllWhole, WholeButLast, FollowsDefinition, RefusedStays, StopsAtRefusal, RefusedWhenFull}
+use Rattle.recordings.specs.Blocks.{joined, readingAfter, WholeButLast, FollowsDefinition, RefusedStays, StopsAtRefusal}
 use Rattle.recordings.proofs.NumberOnLine.{number-of-cut}
 use Rattle.recordings.proofs.FirstLine.{first-line-fault}
 use Rattle.recordings.proofs.BlockLaws.{lines-of-whole, lines-of-short, block-of-refused, block-of-none, block-of-fault, block-of-short, block-of-whole}
+use Rattle.recordings.proofs.WindowAdded.{answer-with-row, windows-of-with}
 use Rattle.recordings.proofs.TextLines.{linesTo, fullAt, system-of-front, record-of-front, window-after}
 use Rattle.recordings.proofs.WindowFaults.{faults-stay, faults-of-window, faults-of-short, short-lines, lines-fault-le, faults-le}
 use Rattle.recordings.proofs.Output.{finish-of-refused, finish-of-none, finish-of-some, output-of-fault, output-of-none, harmlist-of-fault, harmlist-at-end, harmlist-of-none, end-without-window, end-of-windows, end-of-short}
@@ -141,17 +142,9 @@ not-full w e = by-count (decLe mostWindows w)
 groupRow : Reading → List ℕ → Row
 groupRow reading block = rowOf HarmonicGroup (reading .observation .system) (samplesOf block)
 
-answer-with-row : (o : Observation) (row : Row) → addRowRefusal o row ≡ noRefusal → addRowAnswer o row .observation ≡ withRow o row
-unfolding addRowAnswer
-answer-with-row o row e = rw e
-
 system-of-with : (o : Observation) (row : Row) → withRow o row .system ≡ o .system
 unfolding withRow
 system-of-with o row = refl
-
-windows-of-with : (o : Observation) (row : Row) → withRow o row .windows ≡ o .windows + 1
-unfolding withRow
-windows-of-with o row = refl
 
 record-next : (text : List ℕ) (w : ℕ) → recordIn text (w + 1) ≡ addRowAnswer (recordIn text w) (rowOf HarmonicGroup (systemIn text) (windowIn text w)) .observation
 unfolding recordIn rowsIn
@@ -451,7 +444,7 @@ unfolding readingAfter
 refused-stays reading [] f = refl
 refused-stays reading (block ∷ blocks) f = rw (block-of-refused reading block f) (refused-stays reading blocks f)
 
-reading-of-append : (reading : Reading) (blocks more : List (List ℕ)) → readingAfter reading (blocks ++ more) ≡ readingAfter (readingAfter reading blocks) more
+pub reading-of-append : (reading : Reading) (blocks more : List (List ℕ)) → readingAfter reading (blocks ++ more) ≡ readingAfter (readingAfter reading blocks) more
 unfolding readingAfter
 reading-of-append reading [] more = refl
 reading-of-append reading (block ∷ blocks) more = reading-of-append (blockOf reading block) blocks more
@@ -461,15 +454,3 @@ stops-at-refusal first blocks more cut f =
     let after = readingAfter (beginOf first) blocks in
     ap outputOf (sym (reading-of-append (beginOf first) blocks more ∙ refused-stays after more f))
     ∙ follows-definition first (blocks ++ more) cut
-
-windows-counted : (blocks : List (List ℕ)) (p : List ℕ) (w : ℕ) (reading : Reading) → Holds p w reading → AllWhole blocks → readingAfter reading blocks .refusal ≡ noRefusal → w + length blocks ≤ mostWindows
-unfolding readingAfter AllWhole
-windows-counted [] p w reading h cut e =
-    let goes = h .goes-on e in
-    omega (arith, sound-parts (reading .observation) (goes .sound) .windows-le, goes .windows-are)
-windows-counted (block ∷ blocks) p w reading h cut e =
-    omega (arith, windows-counted blocks (p ++ block) (w + 1) (blockOf reading block) (steps p block w reading h (cut .0)) (cut .1) e)
-
-pub refused-when-full : RefusedWhenFull
-refused-when-full first blocks line whole many e =
-    omega (arith, windows-counted blocks first 0 (beginOf first) (begins first line) whole e)

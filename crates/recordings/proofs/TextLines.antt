@@ -17,7 +17,7 @@ use Rattle.observation.specs.Soundness.{mostWindows}
 use Rattle.observation.specs.Calls.{freshAnswer}
 use Rattle.observation.specs.CallList.{recordAfter}
 use Rattle.recordings.specs.Lines.{lineBytes, lineAt, lineNumber, numberOr0, numberAt}
-use Rattle.recordings.specs.Faults.{isNone, lineFault, faultBefore}
+use Rattle.recordings.specs.Faults.{isNone, numberFault, lineFault, faultBefore}
 use Rattle.recordings.specs.Output.{systemIn, windowIn, rowsIn, recordIn}
 use Rattle.recordings.specs.Reading.{sampleFault, samplesOf}
 use Rattle.recordings.proofs.FirstOf.{first-same}
@@ -37,7 +37,7 @@ number-same t u i j e = rw e
 
 fault-same : (t u : List ℕ) (i : ℕ) → lineAt t i ≡ lineAt u i → lineFault t i ≡ lineFault u i
 unfolding lineFault
-fault-same t u i e = rw (e, number-same t u i i e)
+fault-same t u i e = rw e
 
 module _ (p q : List ℕ) where
   line-before : (i : ℕ) → lineBytes * i + lineBytes ≤ length p → lineAt (p ++ q) i ≡ lineAt p i
@@ -99,7 +99,7 @@ abbrev pub fullAt : ℕ → ℕ
 fullAt i = cond (eqb i (windowLength * (mostWindows + 1))) recordFull noRefusal
 
 pub line-fault-of-sample : (t : List ℕ) (i : ℕ) → (i ≡ 0 → ⊥) → lineFault t i ≡ cond (eqb (sampleFault (lineAt t i)) noRefusal) (fullAt i) (sampleFault (lineAt t i))
-unfolding lineFault sampleFault numberAt
+unfolding lineFault numberFault sampleFault
 line-fault-of-sample t i f =
     rw (ne-eqb i 0 f)
     (checks-in-order (isNone (lineNumber (lineAt t i))) (outOfRange (numberOr0 (lineNumber (lineAt t i)))) (fullAt i))

@@ -1,19 +1,21 @@
 -- The first fault of a text after one block more: that of the block's lines, or 9 at the last line of window 45,001. Assumes nothing.
 use mathlib.Core.Bool.{Bool, true, false, cond, not, _&&_}
 use mathlib.Core.List.{List, _++_}
+use mathlib.Core.Option.{Option}
 use mathlib.Core.Path.{_≡_, refl, sym, _∙_}
 use Prim.Native.Nat.{ℕ, zero, suc, _+_, _-_, _*_, _<_, _≤_}
 use native.Mathlib.Decide.{ℕ-discrete}
 use native.Mathlib.Omega.{arith}
 use borrow.Author.Tests.{ne-eqb}
 use lib.Dec.{eqb}
+use lib.IntN.{ℤ}
 use lib.ListN.{length}
 use Rattle.refusals.specs.Numbers.{noRefusal, notAColumn, unknownSystem, sampleOutOfRange, recordFull, wrongBufferLength}
 use Rattle.spectrum.specs.Line.{windowLength}
 use Rattle.spectrum.specs.Spectrum.{outOfRange}
 use Rattle.observation.specs.Soundness.{mostWindows}
-use Rattle.recordings.specs.Lines.{lineBytes, lineAt, lineNumber, numberOr0, numberAt}
-use Rattle.recordings.specs.Faults.{isNone, noSystem, lineFault, firstOf, faultBefore}
+use Rattle.recordings.specs.Lines.{lineBytes, lineAt, lineNumber, numberOr0}
+use Rattle.recordings.specs.Faults.{isNone, noSystem, numberFault, lineFault, firstOf, faultBefore}
 use Rattle.recordings.specs.Reading.{windowBytes, sampleFault, faultOfLines}
 use Rattle.recordings.proofs.FirstOf.{first-after-none, first-stays, first-same, first-with-last, first-le, none-at}
 use Rattle.recordings.proofs.NumberOnLine.{number-of-cut}
@@ -109,16 +111,20 @@ pub lines-fault-le : (block : List ℕ) (n : ℕ) → faultOfLines block n ≤ w
 unfolding faultOfLines
 lines-fault-le block n = first-le (λ j. sampleFault (lineAt block j)) wrongBufferLength n (λ j. sample-fault-le (lineAt block j))
 
-pub line-fault-le : (text : List ℕ) (i : ℕ) → lineFault text i ≤ wrongBufferLength
-unfolding lineFault
-line-fault-le text i =
+number-fault-le : (number : Option ℤ) (i : ℕ) → numberFault number i ≤ wrongBufferLength
+unfolding numberFault
+number-fault-le number i =
     let full = eqb i (windowLength * (mostWindows + 1)) in
-    let out = not (eqb i 0) && outOfRange (numberAt text i) in
-    let unknown = eqb i 0 && noSystem (numberAt text i) in
-    cond-le (isNone (lineNumber (lineAt text i))) notAColumn _ wrongBufferLength (omega arith)
+    let out = not (eqb i 0) && outOfRange (numberOr0 number) in
+    let unknown = eqb i 0 && noSystem (numberOr0 number) in
+    cond-le (isNone number) notAColumn _ wrongBufferLength (omega arith)
     (cond-le unknown unknownSystem _ wrongBufferLength (omega arith)
     (cond-le out sampleOutOfRange _ wrongBufferLength (omega arith)
     (cond-le full recordFull noRefusal wrongBufferLength (omega arith) (omega arith))))
+
+pub line-fault-le : (text : List ℕ) (i : ℕ) → lineFault text i ≤ wrongBufferLength
+unfolding lineFault
+line-fault-le text i = number-fault-le (lineNumber (lineAt text i)) i
 
 pub faults-le : (text : List ℕ) (n : ℕ) → faultBefore text n ≤ wrongBufferLength
 unfolding faultBefore

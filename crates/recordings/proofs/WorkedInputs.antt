@@ -1,18 +1,20 @@
--- Worked inputs with their refusals, by one computed test over a table: each fault, two on one input in their order, and both sides of an edge. Assumes nothing.
+-- Worked inputs with their refusals in document 01's figures, by one computed test over a table each: whole inputs, and single lines by their number and place.
+-- Each fault, two on one line or input in their order, and both sides of an edge.
 use mathlib.Core.Bool.{true}
 use mathlib.Core.List.{List, [], _∷_, _++_}
+use mathlib.Core.Option.{Option, none, some}
 use mathlib.Core.Path.{_≡_, refl}
 use Prim.Native.Nat.{ℕ}
 use Prim.Native.String.{String}
 use lib.Dec.{eqb}
+use lib.IntN.{ℤ, pos, negsuc}
 use Rattle.algebra.specs.Computed.{allPass}
-use Rattle.refusals.specs.Numbers.{unknownSystem, shortWindow, sampleOutOfRange, noWindow, notAColumn}
 use Rattle.columns.specs.Text.{newline, bytesOf}
 use Rattle.columns.specs.Column.{isDigit, areDigits, isWhole, placeValue, wholeNumber, negativeNumber, signedNumber, afterBlanks, columnNumber}
 use Rattle.spectrum.specs.Spectrum.{outOfRange}
 use Rattle.groups.specs.Group.{isSystem}
-use Rattle.recordings.specs.Lines.{lineCountOf, lineAt, lineNumber, numberOr0, numberAt}
-use Rattle.recordings.specs.Faults.{noSystem, isNone, lineFault, firstOf, faultBefore, endFault, inputRefusal}
+use Rattle.recordings.specs.Lines.{lineCountOf, lineAt, lineNumber, numberOr0}
+use Rattle.recordings.specs.Faults.{noSystem, isNone, numberFault, lineFault, firstOf, faultBefore, endFault, inputRefusal}
 
 -- a text and a newline
 abbrev line : String → List ℕ
@@ -21,25 +23,55 @@ line text = bytesOf text ++ (newline ∷ [])
 -- an input, and what refuses it
 abbrev refusals : List (List ℕ × ℕ)
 refusals =
-    ([], notAColumn) ∷
-    (bytesOf "      10", notAColumn) ∷
-    (line "       10", notAColumn) ∷
-    (line "      10", noWindow) ∷
-    (line "      12", noWindow) ∷
-    (line "      11", unknownSystem) ∷
-    (line "     -10", unknownSystem) ∷
-    (line "      10" ++ line "  131071", shortWindow) ∷
-    (line "      10" ++ line " -131071", shortWindow) ∷
-    (line "      10" ++ line "  131072", sampleOutOfRange) ∷
-    (line "      10" ++ line " -131072", sampleOutOfRange) ∷
-    (line "      10" ++ line "      07", notAColumn) ∷
-    (line "      10" ++ line "      -0", notAColumn) ∷
-    (line "      10" ++ bytesOf "  131072", notAColumn) ∷
-    (line "      10" ++ line "  131072" ++ line "      07", sampleOutOfRange) ∷
-    (line "      10" ++ line "      07" ++ line "  131072", notAColumn) ∷
-    (line "      11" ++ line "      07", unknownSystem) ∷
+    ([], 13) ∷
+    (bytesOf "      10", 13) ∷
+    (line "       10", 13) ∷
+    (line "      10", 10) ∷
+    (line "      12", 10) ∷
+    (line "      11", 1) ∷
+    (line "     -10", 1) ∷
+    (line "      10" ++ line "  131071", 2) ∷
+    (line "      10" ++ line " -131071", 2) ∷
+    (line "      10" ++ line "  131072", 3) ∷
+    (line "      10" ++ line " -131072", 3) ∷
+    (line "      10" ++ line "      07", 13) ∷
+    (line "      10" ++ line "      -0", 13) ∷
+    (line "      10" ++ bytesOf "  131072", 13) ∷
+    (line "      10" ++ line "  131072" ++ line "      07", 3) ∷
+    (line "      10" ++ line "      07" ++ line "  131072", 13) ∷
+    (line "      11" ++ line "      07", 1) ∷
     []
 
 pub worked-refusals : allPass (λ i input. eqb (inputRefusal (input .0)) (input .1)) refusals ≡ true
-unfolding inputRefusal endFault faultBefore firstOf lineFault isNone noSystem lineNumber lineAt numberAt numberOr0 lineCountOf bytesOf columnNumber signedNumber afterBlanks wholeNumber negativeNumber isWhole areDigits isDigit placeValue outOfRange isSystem
+unfolding inputRefusal endFault faultBefore firstOf lineFault numberFault isNone noSystem lineNumber lineAt numberOr0 lineCountOf bytesOf columnNumber signedNumber afterBlanks wholeNumber negativeNumber isWhole areDigits isDigit placeValue outOfRange isSystem
 worked-refusals = refl
+
+-- The number on a line, the line's place, and its fault. The lines of window 45,001 are 92,160,001 to 92,162,048.
+abbrev lineFaults : List (Option ℤ × ℕ × ℕ)
+lineFaults =
+    (none, 0, 13) ∷
+    (some (pos 10), 0, 0) ∷
+    (some (pos 12), 0, 0) ∷
+    (some (pos 11), 0, 1) ∷
+    (some (negsuc 9), 0, 1) ∷
+    (some (pos 131072), 0, 1) ∷
+    (none, 1, 13) ∷
+    (some (pos 131072), 1, 3) ∷
+    (some (pos 11), 1, 0) ∷
+    (none, 92160001, 13) ∷
+    (some (pos 131072), 92160001, 3) ∷
+    (some (pos 500), 92160001, 0) ∷
+    (none, 92162047, 13) ∷
+    (some (pos 131072), 92162047, 3) ∷
+    (some (pos 500), 92162047, 0) ∷
+    (none, 92162048, 13) ∷
+    (some (pos 131072), 92162048, 3) ∷
+    (some (pos 500), 92162048, 9) ∷
+    (none, 92162049, 13) ∷
+    (some (pos 131072), 92162049, 3) ∷
+    (some (pos 500), 92162049, 0) ∷
+    []
+
+pub worked-lines : allPass (λ i row. eqb (numberFault (row .0) (row .1)) (row .2)) lineFaults ≡ true
+unfolding numberFault isNone noSystem numberOr0 outOfRange isSystem
+worked-lines = refl

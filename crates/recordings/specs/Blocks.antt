@@ -5,7 +5,6 @@ use mathlib.Core.Path.{_≡_}
 use Prim.Native.Nat.{ℕ, _≤_, _<_}
 use lib.ListN.{length}
 use Rattle.refusals.specs.Numbers.{noRefusal}
-use Rattle.observation.specs.Soundness.{mostWindows}
 use Rattle.recordings.specs.declared.Reading.{Reading}
 use Rattle.recordings.specs.Lines.{lineBytes}
 use Rattle.recordings.specs.Output.{harmlistOutput}
@@ -20,11 +19,6 @@ joined (block ∷ blocks) = block ++ joined blocks
 unfoldable pub readingAfter : Reading → List (List ℕ) → Reading
 readingAfter reading [] = reading
 readingAfter reading (block ∷ blocks) = readingAfter (blockOf reading block) blocks
-
--- all blocks have a window's lines
-unfoldable pub AllWhole : List (List ℕ) → Type 0
-AllWhole [] = Unit
-AllWhole (block ∷ blocks) = (length block ≡ windowBytes) × AllWhole blocks
 
 -- all blocks but the last have a window's lines, and the last at most so many bytes
 unfoldable pub WholeButLast : List (List ℕ) → Type 0
@@ -55,9 +49,3 @@ StopsAtRefusal =
     (first : List ℕ) (blocks more : List (List ℕ)) → CutInBlocks first (blocks ++ more) →
     (readingAfter (beginOf first) blocks .refusal ≡ noRefusal → ⊥) →
     outputOf (readingAfter (beginOf first) blocks) ≡ harmlistOutput (first ++ joined (blocks ++ more))
-
--- after more windows than a record holds the reading is refused, so that the reading of any input ends
-abbrev pub RefusedWhenFull : Type 0
-RefusedWhenFull =
-    (first : List ℕ) (blocks : List (List ℕ)) → length first ≡ lineBytes → AllWhole blocks →
-    mostWindows < length blocks → readingAfter (beginOf first) blocks .refusal ≡ noRefusal → ⊥

@@ -11,7 +11,7 @@ use Rattle.spectrum.specs.Line.{windowLength}
 use Rattle.spectrum.specs.Spectrum.{outOfRange}
 use Rattle.groups.specs.Group.{isSystem}
 use Rattle.observation.specs.Soundness.{mostWindows}
-use Rattle.recordings.specs.Lines.{lineCountOf, lineAt, lineNumber, numberAt}
+use Rattle.recordings.specs.Lines.{lineCountOf, lineAt, lineNumber, numberOr0}
 
 -- a number that is no system; one with a minus is none
 unfoldable pub noSystem : ℤ → Bool
@@ -23,15 +23,19 @@ unfoldable pub isNone : Option ℤ → Bool
 isNone none = true
 isNone (some z) = false
 
--- "13 for another line (also one without its newline) .., 1, 3, 9 at the last line of window 45,001, and two on one line in that order": line 0 has the system, line i the i-th sample
-unfoldable pub lineFault : List ℕ → ℕ → ℕ
-lineFault text i =
+-- "13 for another line (also one without its newline) .., 1, 3, 9 at the last line of window 45,001, and two on one line in that order": by the number on a line and the line's place; line 0 has the system, line i the i-th sample
+unfoldable pub numberFault : Option ℤ → ℕ → ℕ
+numberFault number i =
     firstFault
-    ((isNone (lineNumber (lineAt text i)), notAColumn) ∷
-    (eqb i 0 && noSystem (numberAt text i), unknownSystem) ∷
-    (not (eqb i 0) && outOfRange (numberAt text i), sampleOutOfRange) ∷
+    ((isNone number, notAColumn) ∷
+    (eqb i 0 && noSystem (numberOr0 number), unknownSystem) ∷
+    (not (eqb i 0) && outOfRange (numberOr0 number), sampleOutOfRange) ∷
     (eqb i (windowLength * (mostWindows + 1)), recordFull) ∷
     [])
+
+-- the fault of a line of the text
+unfoldable pub lineFault : List ℕ → ℕ → ℕ
+lineFault text i = numberFault (lineNumber (lineAt text i)) i
 
 -- the first fault of the places before n in their order, with the fault of each place given
 unfoldable pub firstOf : (ℕ → ℕ) → ℕ → ℕ

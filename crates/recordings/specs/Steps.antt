@@ -29,9 +29,13 @@ pub record ReadInto (block : List ℕ) (count : ℕ) (before : List ℤ) (fault 
   pub fault-is : fault ≡ faultOfLines block count
   pub samples-are : fault ≡ noRefusal → after ≡ tabulate count (numberAt block) ++ drop count before
 
--- the number of the system line as a system: 0, which is none, where it is below 0 or too large for one
+-- the larger of the two systems
+abbrev pub largestSystem : ℕ
+largestSystem = 12
+
+-- the number of the system line as a system: 0, which is none, where it is below 0 or above every system
 unfoldable pub systemWord : ℤ → ℕ
-systemWord (pos n) = cond (ltb 99 n) 0 n
+systemWord (pos n) = cond (ltb largestSystem n) 0 n
 systemWord (negsuc n) = 0
 
 -- the reading before the first window

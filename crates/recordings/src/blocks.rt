@@ -26,8 +26,8 @@ ghost use Rattle.spectrum.specs.Spectrum.{outOfRange};
 ghost use Rattle.recordings.specs.Reading.{beginOf, blockLines, refusedWith, windowTaken, blockOf};
 ghost use Rattle.recordings.specs.Steps.{systemWord, readingOfNone};
 
-// The largest number that is looked at as a system.
-const LARGEST_SYSTEM: i64 = 99;
+// The larger of the two systems: a number above it is none.
+const LARGEST_SYSTEM: i64 = 12;
 
 // The number of the system line as a system, or 0, which is none.
 fn system_word(number: i64) -> u32

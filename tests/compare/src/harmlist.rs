@@ -1,20 +1,16 @@
-//! The built program `harmlist` against the second program, byte for byte.
+//! The built program `harmlist` against the second program, byte for byte. tests/edges has the inputs
+//! and outputs that are no plain files.
 
 use crate::Tally;
 use reference::harmlist::harmlist;
 use reference::inputs::{all_inputs, input_bytes};
 use reference::random::Random;
 use reference::signals;
-use std::fs::File;
 use std::io::Write;
-use std::os::unix::process::ExitStatusExt;
 use std::process::{Command, Stdio};
 
-/// The largest piece in which an input is handed over.
-const WHOLE: usize = usize::MAX;
-
-/// What the built program writes for an input that comes in pieces of so many bytes.
-fn written(program: &str, input: &[u8], piece: usize) -> Vec<u8> {
+/// What the built program writes for an input.
+fn written(program: &str, input: &[u8]) -> Vec<u8> {
     let mut child = Command::new(program)
         .stdin(Stdio::piped())
         .stdout(Stdio::piped())
@@ -23,28 +19,18 @@ fn written(program: &str, input: &[u8], piece: usize) -> Vec<u8> {
     let mut stdin = child.stdin.take().expect("its standard input");
     let bytes = input.to_vec();
     // The program stops reading at a refusal, so that a write may find the pipe closed.
-    let writer = std::thread::spawn(move || {
-        for part in bytes.chunks(piece) {
-            if stdin.write_all(part).is_err() {
-                return;
-            }
-        }
-    });
+    let writer = std::thread::spawn(move || stdin.write_all(&bytes).is_ok());
     let output = child.wait_with_output().expect("harmlist ends");
     writer.join().expect("the writer ends");
     assert!(output.status.success(), "harmlist ends in order");
     output.stdout
 }
 
-fn compare_pieces(tally: &mut Tally, program: &str, name: &str, input: &[u8], piece: usize) {
+fn compare_input(tally: &mut Tally, program: &str, name: &str, input: &[u8]) {
     let expected = harmlist(input.iter().copied());
-    let core = written(program, input, piece);
+    let core = written(program, input);
     let text = |bytes: &[u8]| String::from_utf8_lossy(bytes).into_owned();
     tally.same(name, text(&core), text(&expected));
-}
-
-fn compare_input(tally: &mut Tally, program: &str, name: &str, input: &[u8]) {
-    compare_pieces(tally, program, name, input, WHOLE);
 }
 
 /// Lines that are right, out of range, or no column and a newline.
@@ -93,29 +79,6 @@ fn compare_pairs(tally: &mut Tally, program: &str) {
     }
 }
 
-/// An output that nobody reads, or that takes nothing, ends the program in order.
-fn try_outputs(tally: &mut Tally, program: &str, input: &[u8]) {
-    const BROKEN_PIPE: i32 = 13;
-    let outputs = [
-        Stdio::piped(),
-        Stdio::from(File::create("/dev/full").expect("/dev/full")),
-    ];
-    for output in outputs {
-        let mut child = Command::new(program)
-            .stdin(Stdio::piped())
-            .stdout(output)
-            .spawn()
-            .expect("harmlist starts");
-        drop(child.stdout.take());
-        let mut stdin = child.stdin.take().expect("its standard input");
-        stdin.write_all(input).expect("harmlist reads its input");
-        drop(stdin);
-        let status = child.wait().expect("harmlist ends");
-        let in_order = status.success() || status.signal() == Some(BROKEN_PIPE);
-        tally.same("an output that takes nothing", in_order, true);
-    }
-}
-
 /// A valid input of one window with some of its bytes changed.
 fn edited(random: &mut Random, valid: &[u8]) -> Vec<u8> {
     let mut bytes = valid.to_vec();
@@ -144,12 +107,8 @@ pub fn compare(tally: &mut Tally, program: &str, seed: u64) {
 
     compare_pairs(tally, program);
 
-    // A small recording: in pieces, with nobody to write to, cut at every place, edited at random.
+    // A small recording: cut at every place, edited at random.
     let valid = input_bytes(12, &signals::noise(2048, 131_071, seed).samples);
-    for piece in [1, 7, 1000] {
-        compare_pieces(tally, program, "in pieces", &valid, piece);
-    }
-    try_outputs(tally, program, &valid);
     for length in 0..=valid.len() {
         compare_input(
             tally,

@@ -1,40 +1,43 @@
--- `harmlist::read_blocks` is safe and ends. The measure is the count of blocks that may still come.
--- Nothing has to hold from one block to the next, so the invariant is `Unit {0}`, which `tt` shows. Assumes nothing.
-use Prim.Native.Nat.{_+_, _-_}
-use native.Mathlib.Omega.{arith}
-use Rattle.observation.specs.Soundness.{mostWindows}
+-- `harmlist::read_blocks` meets its contract. The invariant is that the blocks so far were whole; the measure is how many may still come.
+use mathlib.Core.Logic.{inr}
+use borrow.Author.Needs.{needs}
+use Rattle.harmlist.proofs.Blocks.{one-holds, first-fails, SoFar, begins, blocksLeft, stops, ends-with, next, fewer-left}
 use Rattle.harmlist.proofs.read_blocks.Statement.{statement}
 use Rattle.harmlist.proofs.read_blocks.Tie as tie
 
 abbrev Inv-loop : tie.InvT-loop
-Inv-loop reading₀ blocks₀ reading blocks = Unit {0}
+Inv-loop reading₀ reading = SoFar reading₀ reading
 
 abbrev μ-loop : tie.MeasureT-loop
-μ-loop reading₀ blocks₀ reading blocks = mostWindows + 1 - blocks
+μ-loop reading₀ reading = blocksLeft reading
 
 loop-holds : tie.Need-loop-holds Inv-loop μ-loop
-loop-holds c = tt
-
-returns : tie.Need-returns Inv-loop μ-loop
-returns c = tt
+loop-holds c = begins _
 
 read-block-requires : tie.Need-read-block-requires Inv-loop μ-loop
-read-block-requires c κs = tt
+read-block-requires c κs = search needs
 
-returns-2 : tie.Need-returns-2 Inv-loop μ-loop
-returns-2 c = tt
-
-add-blocks : tie.Need-add-blocks Inv-loop μ-loop
-add-blocks c = omega arith
+returns : tie.Need-returns Inv-loop μ-loop
+returns c =
+    let read = c .before .before .read-block in
+    ends-with _ _ (c .before .before .before .before .before .loop .inv) (read .result) (read .ensures)
+    (inr (one-holds (read .result .short) (read .result .failed) (c .if2 .taken)))
 
 loop-less : tie.Need-loop-less Inv-loop μ-loop
-loop-less c = omega arith
+loop-less c =
+    let read = c .before .before .before .read-block in
+    fewer-left _ _ (c .before .before .before .before .before .before .loop .inv) (read .result) (read .ensures)
+    (first-fails (read .result .short) (read .result .failed) (c .before .if2 .left))
+    (c .before .before .before .before .if1 .taken)
 
 loop-again : tie.Need-loop-again Inv-loop μ-loop
-loop-again c = tt
+loop-again c =
+    let read = c .before .before .before .read-block in
+    next _ _ (c .before .before .before .before .before .before .loop .inv) (read .result) (read .ensures)
+    (first-fails (read .result .short) (read .result .failed) (c .before .if2 .left))
 
-returns-3 : tie.Need-returns-3 Inv-loop μ-loop
-returns-3 c = tt
+returns-2 : tie.Need-returns-2 Inv-loop μ-loop
+returns-2 c = stops _ _ (c .before .before .loop .inv) (c .if1 .left)
 
 pub read-blocks-spec : {M : Type 1} → statement M
 read-blocks-spec =
@@ -43,10 +46,8 @@ read-blocks-spec =
     Inv-loop
     μ-loop
     loop-holds
-    returns
     read-block-requires
-    returns-2
-    add-blocks
+    returns
     loop-less
     loop-again
-    returns-3)
+    returns-2)

@@ -10,7 +10,7 @@ use lib.Signed.{ltZ, nonNeg}
 use mir.Facts.{toZ-ofZ}
 use mir.Syntax.{w32}
 use mir.Val.{Fits}
-use Rattle.recordings.specs.Steps.{systemWord}
+use Rattle.recordings.specs.Steps.{largestSystem, systemWord}
 use Rattle.recordings.proofs.blocks.system_word.Statement.{statement}
 use Rattle.recordings.proofs.blocks.system_word.Tie as tie
 
@@ -19,14 +19,14 @@ unfolding systemWord
 word-of-negative (pos n) h = absurd (not-suc-le-zero (ltb-true n 0 h))
 word-of-negative (negsuc n) h = refl
 
-word-of-large : (z : ℤ) → ltZ (pos 99) z ≡ true → 0 ≡ systemWord z
+word-of-large : (z : ℤ) → ltZ (pos largestSystem) z ≡ true → 0 ≡ systemWord z
 unfolding systemWord
 word-of-large (pos n) h = rw h
 word-of-large (negsuc n) h = refl
 
-word-of-small : (z : ℤ) → ltZ z (pos 0) ≡ false → ltZ (pos 99) z ≡ false → T (nonNeg z) × Fits w32 (natAbs z) × (natAbs z ≡ systemWord z)
+word-of-small : (z : ℤ) → ltZ z (pos 0) ≡ false → ltZ (pos largestSystem) z ≡ false → T (nonNeg z) × Fits w32 (natAbs z) × (natAbs z ≡ systemWord z)
 unfolding systemWord
-word-of-small (pos n) h l = (tt, record { fits = omega (arith, ltb-false 99 n l) }, rw l)
+word-of-small (pos n) h l = (tt, record { fits = omega (arith, ltb-false largestSystem n l) }, rw l)
 word-of-small (negsuc n) h l = absurd (true≢false h)
 
 returns : tie.Need-returns

@@ -1,0 +1,165 @@
+-- The blocks that were read so far, one block more, how many more may come, and what the whole gives.
+use mathlib.Core.Bool.{Bool, true, false, cond, _||_, true≢false}
+use mathlib.Core.List.{List, [], _∷_, _++_}
+use mathlib.Core.Logic.{_⊎_, inl, inr}
+use mathlib.Core.Path.{_≡_, refl, sym, ap, _∙_}
+use Prim.Native.Nat.{ℕ, _+_, _-_, _<_, _≤_}
+use native.Mathlib.Decide.{ℕ-discrete}
+use native.Mathlib.Omega.{arith}
+use borrow.Author.Tests.{eq-eqb, ne-eqb, ltb-true, ltb-false}
+use lib.Dec.{eqb, ltb}
+use lib.ListN.{length}
+use Rattle.refusals.specs.Numbers.{noRefusal}
+use Rattle.observation.specs.Soundness.{mostWindows}
+use Rattle.recordings.specs.declared.Reading.{Reading}
+use Rattle.recordings.specs.Lines.{lineBytes}
+use Rattle.recordings.specs.Reading.{windowBytes, blockOf, outputOf}
+use Rattle.recordings.specs.Blocks.{joined, readingAfter, WholeButLast, CutInBlocks}
+use Rattle.recordings.proofs.WindowAdded.{block-added}
+use Rattle.recordings.proofs.Follows.{follows-definition, reading-of-append}
+use Rattle.harmlist.specs.declared.Input.{Input}
+use Rattle.harmlist.specs.Input.{LineRead, BlockRead, Ends, BlocksRead, TextRead}
+
+-- ---- two tests
+
+pub one-holds : (a b : Bool) → (a || b) ≡ true → (a ≡ true) ⊎ (b ≡ true)
+one-holds true b e = inl refl
+one-holds false b e = inr e
+
+pub first-fails : (a b : Bool) → (a || b) ≡ false → a ≡ false
+first-fails true b e = absurd (true≢false e)
+first-fails false b e = refl
+
+-- ---- lists of blocks
+
+-- all blocks have a window's lines
+unfoldable pub AllWhole : List (List ℕ) → Type 0
+AllWhole [] = Unit
+AllWhole (block ∷ blocks) = (length block ≡ windowBytes) × AllWhole blocks
+
+whole-and-one : (blocks : List (List ℕ)) (block : List ℕ) → AllWhole blocks → length block ≡ windowBytes → AllWhole (blocks ++ (block ∷ []))
+unfolding AllWhole
+whole-and-one [] block whole e = (e, tt)
+whole-and-one (first ∷ blocks) block whole e = (whole .0, whole-and-one blocks block (whole .1) e)
+
+whole-and-last :
+    (blocks : List (List ℕ)) (block : List ℕ) → AllWhole blocks → length block ≤ windowBytes →
+    WholeButLast (blocks ++ (block ∷ []))
+unfolding AllWhole WholeButLast
+whole-and-last [] block whole le = le
+whole-and-last (first ∷ []) block whole le = (whole .0, le)
+whole-and-last (first ∷ next ∷ blocks) block whole le = (whole .0, whole-and-last (next ∷ blocks) block (whole .1) le)
+
+whole-but-last : (blocks : List (List ℕ)) → AllWhole blocks → WholeButLast blocks
+unfolding AllWhole WholeButLast
+whole-but-last [] whole = tt
+whole-but-last (first ∷ []) whole = omega (arith, whole .0)
+whole-but-last (first ∷ next ∷ blocks) whole = (whole .0, whole-but-last (next ∷ blocks) (whole .1))
+
+reading-and-one :
+    (first : Reading) (blocks : List (List ℕ)) (block : List ℕ) →
+    readingAfter first (blocks ++ (block ∷ [])) ≡ blockOf (readingAfter first blocks) block
+unfolding readingAfter
+reading-and-one first blocks block = reading-of-append first blocks (block ∷ [])
+
+-- ---- the reading of blocks
+
+-- the reading after some blocks, all of them whole
+pub record SoFar (first reading : Reading) : Type 0 where
+  pub blocks : List (List ℕ)
+  pub whole : AllWhole blocks
+  pub reading-is : reading ≡ readingAfter first blocks
+
+pub begins : (first : Reading) → SoFar first first
+unfolding AllWhole readingAfter
+begins first = record { blocks = []; whole = tt; reading-is = refl }
+
+-- how many blocks may still come: none after a refusal, else those that fill the record and one more
+abbrev pub blocksLeft : Reading → ℕ
+blocksLeft reading =
+    cond (eqb (reading .refusal) noRefusal) (1 + (mostWindows - reading .observation .windows)) 0
+
+module _ (first reading : Reading) (so-far : SoFar first reading) where
+  -- at a refusal
+  pub stops : (reading .refusal ≡ noRefusal → ⊥) → BlocksRead first (record { reading = reading; short = false; failed = false })
+  stops f = record {
+    blocks = so-far .blocks;
+    cut = whole-but-last (so-far .blocks) (so-far .whole);
+    reading-is = so-far .reading-is;
+    ends = inl f;
+  }
+
+  module _ (input : Input) (read : BlockRead reading input) where
+    reading-next : input .reading ≡ readingAfter first (so-far .blocks ++ (read .block ∷ []))
+    reading-next =
+        read .reading-is
+        ∙ ap (λ (r : Reading). blockOf r (read .block)) (so-far .reading-is)
+        ∙ sym (reading-and-one first (so-far .blocks) (read .block))
+
+    -- with the last block
+    pub ends-with : Ends input → BlocksRead first input
+    ends-with ends = record {
+      blocks = so-far .blocks ++ (read .block ∷ []);
+      cut = whole-and-last (so-far .blocks) (read .block) (so-far .whole) (read .fits);
+      reading-is = reading-next;
+      ends = ends;
+    }
+
+    module _ (goes-on : input .short ≡ false) where
+      is-whole : length (read .block) ≡ windowBytes
+      is-whole = omega (arith, read .fits, ltb-false (length (read .block)) windowBytes (sym (read .short-is) ∙ goes-on))
+
+      pub next : SoFar first (input .reading)
+      next = record {
+        blocks = so-far .blocks ++ (read .block ∷ []);
+        whole = whole-and-one (so-far .blocks) (read .block) (so-far .whole) is-whole;
+        reading-is = reading-next;
+      }
+
+      -- each block leaves fewer to come
+      pub fewer-left : reading .refusal ≡ noRefusal → blocksLeft (input .reading) < blocksLeft reading
+      fewer-left e = by-refusal (ℕ-discrete (input .reading .refusal) noRefusal)
+        where
+          by-refusal : Dec (input .reading .refusal ≡ noRefusal) → blocksLeft (input .reading) < blocksLeft reading
+          by-refusal (yes z) =
+              let after : blockOf reading (read .block) .refusal ≡ noRefusal =
+              sym (ap (λ (r : Reading). r .refusal) (read .reading-is)) ∙ z in
+              let added = block-added reading (read .block) (λ none. omega (arith, is-whole)) after in
+              let windows = ap (λ (r : Reading). r .observation .windows) (read .reading-is) in
+              rw (eq-eqb (reading .refusal) noRefusal e, eq-eqb (input .reading .refusal) noRefusal z)
+              (omega (arith, added, windows))
+          by-refusal (no f) = rw (eq-eqb (reading .refusal) noRefusal e, ne-eqb (input .reading .refusal) noRefusal f) (omega arith)
+
+-- ---- the whole text
+
+module _ (line : Input) (read : LineRead line) where
+  -- the blocks after the line give what harmlist writes
+  text-read :
+      (input : Input) (blocks : List (List ℕ)) → CutInBlocks (read .line) blocks →
+      input .reading ≡ readingAfter (line .reading) blocks → Ends input → TextRead input
+  text-read input blocks cut after ends = record {
+    text = read .line ++ joined blocks;
+    output-is =
+        ap outputOf (after ∙ ap (λ (r : Reading). readingAfter r blocks) (read .reading-is))
+        ∙ follows-definition (read .line) blocks cut;
+    ends = ends;
+  }
+
+  line-whole : line .short ≡ false → length (read .line) ≡ lineBytes
+  line-whole e = omega (arith, read .fits, ltb-false (length (read .line)) lineBytes (sym (read .short-is) ∙ e))
+
+  line-short : line .short ≡ true → length (read .line) < lineBytes
+  line-short e = ltb-true (length (read .line)) lineBytes (sym (read .short-is) ∙ e)
+
+  -- no block is read after a line that is short, or whose read failed
+  pub line-ends : Ends line → TextRead line
+  unfolding readingAfter WholeButLast
+  line-ends ends = text-read line [] (cut (line .short) refl) refl ends
+    where
+      cut : (short : Bool) → line .short ≡ short → CutInBlocks (read .line) []
+      cut true e = inr (line-short e, refl)
+      cut false e = inl (line-whole e, tt)
+
+  pub text-ends : (input : Input) → line .short ≡ false → BlocksRead (line .reading) input → TextRead input
+  text-ends input e blocks-read =
+      text-read input (blocks-read .blocks) (inl (line-whole e, blocks-read .cut)) (blocks-read .reading-is) (blocks-read .ends)

@@ -1,0 +1,46 @@
+-- `harmlist::read_block` meets its contract.
+use mathlib.Core.Path.{ap}
+use borrow.Author.Needs.{needs}
+use native.Mathlib.Omega.{arith}
+use lib.Dec.{ltb}
+use lib.ListN.{take}
+use Rattle.recordings.specs.Reading.{windowBytes}
+use Rattle.harmlist.proofs.read_block.Statement.{statement}
+use Rattle.harmlist.proofs.read_block.Tie as tie
+
+slice-aggregate-read-full : tie.Need-slice-aggregate-read-full
+slice-aggregate-read-full c = search needs
+
+read-full-requires : tie.Need-read-full-requires
+read-full-requires c κs = search needs
+
+array-share-prefix-block : tie.Need-array-share-prefix-block
+array-share-prefix-block c = search needs
+
+slice-aggregate-take-block : tie.Need-slice-aggregate-take-block
+slice-aggregate-take-block c = search needs
+
+take-block-requires : tie.Need-take-block-requires
+take-block-requires c κs = search needs
+
+returns : tie.Need-returns
+returns c =
+    let full = c .before .before .before .read-full in
+    let count = full .result .count in
+    record {
+      block = take count (full .last .0);
+      fits = omega (arith, full .ensures, full .kept);
+      short-is = ap (λ n. ltb n windowBytes) (full .ensures .1);
+      reading-is = c .take-block .ensures;
+    }
+
+pub read-block-spec : {M : Type 1} → statement M
+read-block-spec =
+    tie.close
+    (tie.spec
+    slice-aggregate-read-full
+    read-full-requires
+    array-share-prefix-block
+    slice-aggregate-take-block
+    take-block-requires
+    returns)

@@ -1,0 +1,46 @@
+-- What harmlist's reading of its input answers. No contract of the system's read says which bytes come, so they are some bytes here; what they are read as is defined.
+use mathlib.Core.Bool.{true}
+use mathlib.Core.List.{List}
+use mathlib.Core.Logic.{_⊎_}
+use mathlib.Core.Path.{_≡_}
+use Prim.Native.Nat.{ℕ, _≤_}
+use lib.Dec.{ltb}
+use lib.ListN.{length}
+use Rattle.refusals.specs.Numbers.{noRefusal}
+use Rattle.recordings.specs.declared.Reading.{Reading}
+use Rattle.recordings.specs.Lines.{lineBytes}
+use Rattle.recordings.specs.Output.{harmlistOutput}
+use Rattle.recordings.specs.Reading.{windowBytes, beginOf, blockOf, outputOf}
+use Rattle.recordings.specs.Blocks.{WholeButLast, readingAfter}
+use Rattle.harmlist.specs.declared.Input.{Input}
+
+-- the first line was read, or fewer bytes
+pub record LineRead (input : Input) : Type 0 where
+  pub line : List ℕ
+  pub fits : length line ≤ lineBytes
+  pub short-is : input .short ≡ ltb (length line) lineBytes
+  pub reading-is : input .reading ≡ beginOf line
+
+-- a window's lines were read, or fewer bytes
+pub record BlockRead (before : Reading) (input : Input) : Type 0 where
+  pub block : List ℕ
+  pub fits : length block ≤ windowBytes
+  pub short-is : input .short ≡ ltb (length block) windowBytes
+  pub reading-is : input .reading ≡ blockOf before block
+
+-- why no more is read: the reading is refused, the last block was short, or a read failed
+abbrev pub Ends : Input → Type 0
+Ends input = (input .reading .refusal ≡ noRefusal → ⊥) ⊎ ((input .short ≡ true) ⊎ (input .failed ≡ true))
+
+-- blocks were read, whole but for the last
+pub record BlocksRead (first : Reading) (input : Input) : Type 0 where
+  pub blocks : List (List ℕ)
+  pub cut : WholeButLast blocks
+  pub reading-is : input .reading ≡ readingAfter first blocks
+  pub ends : Ends input
+
+-- a text was read, and what its reading writes is what harmlist writes for it
+pub record TextRead (input : Input) : Type 0 where
+  pub text : List ℕ
+  pub output-is : outputOf (input .reading) ≡ harmlistOutput text
+  pub ends : Ends input

@@ -1,0 +1,2 @@
+-- What harmlist's reading of its input answers.
+pub mod Input
