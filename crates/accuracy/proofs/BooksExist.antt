@@ -25,8 +25,8 @@ bound upper value = value + groupMargin
 
 bound-holds : (side : Side) (kind : Kind) (system order : ℕ) (window : List ℤ) → GroupNear kind system order window → RootBound side (whole (bound side (valueOf kind system order window))) (exactGroup kind system order window)
 unfolding bound
-bound-holds lower kind system order window near = near .not-far-below
-bound-holds upper kind system order window near = near .not-far-above
+bound-holds lower kind system order window near = near .value-near .not-far-below
+bound-holds upper kind system order window near = near .value-near .not-far-above
 
 module _ (side : Side) (order : ℕ) where
   -- a call of the book at a row

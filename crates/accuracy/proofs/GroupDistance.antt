@@ -126,8 +126,10 @@ groups-near kind system order window known-system above-zero at-most in-range =
     let within = within-seven window (in-range .samples) xs (weights-total-le kind system order known-system) _ same small in
     record {
       answered = accepted;
-      not-far-below = rw accepted (low _ _ _ (within .low));
-      not-far-above = rw accepted (high _ _ _ (within .high));
+      value-near = record {
+        not-far-below = rw accepted (low _ _ _ (within .low));
+        not-far-above = rw accepted (high _ _ _ (within .high));
+      };
     }
   where
     low : (a d e : ℕ) → 1 * (a * a) * (d * d) ≤ e → a * a * (d * d) ≤ e * (1 * 1)

@@ -1,4 +1,4 @@
--- A worked list of calls, with a refused one between two accepted ones. It meets the hypotheses of demand 3 for every kind and every window in range.
+-- A worked list of calls, with a refused one between two accepted ones. It meets the hypotheses of demand 3 for every kind and any two windows in range.
 -- Of the pulse's harmonic groups, document 01's 8944, the third order is then judged over, close and within at K = 3883, 3884 .. 3893 and 3894. Assumes nothing.
 use mathlib.Core.Path.{_≡_, refl, sym, ap, subst, fun-ext, _∙_}
 use mathlib.Core.Bool.{true}
@@ -37,25 +37,25 @@ known : isSystem 10 ≡ true
 unfolding isSystem
 known = refl
 
-module _ (kind : Kind) (window : List ℤ) where
-  unfoldable pub workedRow : Row
-  workedRow = record { system = 10; values = groupValues kind 10 (linesOf window) }
+unfoldable pub workedRow : Kind → List ℤ → Row
+workedRow kind window = record { system = 10; values = groupValues kind 10 (linesOf window) }
 
-  -- of another system, so that it is refused
-  unfoldable pub refusedRow : Row
-  refusedRow = record { system = 12; values = replicate orderCount 1 }
+worked-row : (kind : Kind) (window : List ℤ) → InRange window → Worked kind (workedRow kind window) window
+unfolding workedRow
+worked-row kind window in-range = record { in-range = in-range; values = refl }
 
+-- of another system, so that it is refused
+unfoldable pub refusedRow : Row
+refusedRow = record { system = 12; values = replicate orderCount 1 }
+
+module _ (kind : Kind) (window next : List ℤ) where
   unfoldable pub workedRows : List Row
-  workedRows = workedRow ∷ refusedRow ∷ workedRow ∷ []
+  workedRows = workedRow kind window ∷ refusedRow ∷ workedRow kind next ∷ []
 
-  module _ (in-range : InRange window) where
-    worked-row : Worked kind workedRow window
-    unfolding workedRow
-    worked-row = record { in-range = in-range; values = refl }
-
+  module _ (in-range : InRange window) (next-in-range : InRange next) where
     pub worked-rows : WorkedList kind 10 workedRows
     unfolding WorkedList EachAccepted accepts rowChecks isSystem workedRows workedRow refusedRow
-    worked-rows = ((window, worked-row), ((window, worked-row), tt))
+    worked-rows = ((window, worked-row kind window in-range), ((next, worked-row kind next next-in-range), tt))
 
     -- the refused row isn't counted
     two-windows : after kind 10 workedRows .windows ≡ 2
@@ -82,14 +82,14 @@ pulse-group : valueOf HarmonicGroup 10 3 pulse ≡ 8944
 pulse-group = ap (λ (lines : List ℕ). groupAnswer HarmonicGroup 10 3 lines .value) pulse-lines ∙ pulse-value
 
 -- the third order after the list
-pulse-book : bookAt (after HarmonicGroup 10 (workedRows HarmonicGroup pulse)) 2 ≡ record { count = 2; smoothed = 8944; sum = 17888; peak = 8944 }
+pulse-book : bookAt (after HarmonicGroup 10 (workedRows HarmonicGroup pulse pulse)) 2 ≡ record { count = 2; smoothed = 8944; sum = 17888; peak = 8944 }
 unfolding reportedBook bookAfter bookCall ownValues accepts rowChecks isSystem workedRows workedRow refusedRow bookStep emptyBook smoothedNext smoothedValue nearest tabulate groupValues
 pulse-book =
-    books-kept HarmonicGroup 10 known (workedRows HarmonicGroup pulse) (worked-rows HarmonicGroup pulse pulse-window) 3 (omega arith) (omega arith) ∙
+    books-kept HarmonicGroup 10 known (workedRows HarmonicGroup pulse pulse) (worked-rows HarmonicGroup pulse pulse pulse-window pulse-window) 3 (omega arith) (omega arith) ∙
     rw pulse-group
 
 -- 2.3 × K is 8930.9, 8933.2, 8953.9 and 8956.2, and 150 % of each is above the peak with the band
-pulse-verdicts : let o = after HarmonicGroup 10 (workedRows HarmonicGroup pulse) in (verdictOf o 3 3883 ≡ Over 3) × (verdictOf o 3 3884 ≡ Close 3) × (verdictOf o 3 3893 ≡ Close 3) × (verdictOf o 3 3894 ≡ Within 3)
+pulse-verdicts : let o = after HarmonicGroup 10 (workedRows HarmonicGroup pulse pulse) in (verdictOf o 3 3883 ≡ Over 3) × (verdictOf o 3 3884 ≡ Close 3) × (verdictOf o 3 3893 ≡ Close 3) × (verdictOf o 3 3894 ≡ Within 3)
 unfolding verdictOf averageOf peakOf bookAt combined isOver isWithin limitInUnits peakLimitInUnits limitOf figureIn ownFigures overOrder whole _+ᶠ_ scale divide
 pulse-verdicts =
     subst

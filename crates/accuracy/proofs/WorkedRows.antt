@@ -37,8 +37,8 @@ worked-list-fits kind system =
 
 -- both sides of the distance
 pub square-within : (side : Side) (kind : Kind) (system order : ℕ) (window : List ℤ) → GroupNear kind system order window → SquareWithin side (valueOf kind system order window) (exactGroup kind system order window) groupMargin
-square-within lower kind system order window near = near .not-far-above
-square-within upper kind system order window near = near .not-far-below
+square-within lower kind system order window near = near .value-near .not-far-above
+square-within upper kind system order window near = near .value-near .not-far-below
 
 -- the value that the row holds of an order
 pub worked-value : (kind : Kind) (row : Row) (window : List ℤ) → Worked kind row window → (order : ℕ) → 0 < order → order ≤ orderCount → getD (row .values) (order - 1) 0 ≡ valueOf kind (row .system) order window

@@ -28,12 +28,14 @@ abbrev pub valueOf : Kind → ℕ → ℕ → List ℤ → ℕ
 valueOf kind system order window = groupAnswer kind system order (linesOf window) .value
 
 -- "R less 7 (not below 0), squared, is at most G, and G is at most R plus 7, squared"
+pub record ValueNear (kind : Kind) (system order : ℕ) (window : List ℤ) (value : ℕ) : Type 0 where
+  pub not-far-below : square (whole (value - groupMargin)) ≤ᶠ exactGroup kind system order window
+  pub not-far-above : exactGroup kind system order window ≤ᶠ square (whole (value + groupMargin))
+
+-- the group value that is answered for the lines of the window
 pub record GroupNear (kind : Kind) (system order : ℕ) (window : List ℤ) : Type 0 where
   pub answered : groupAnswer kind system order (linesOf window) .refusal ≡ noRefusal
-  pub not-far-below :
-      square (whole (valueOf kind system order window - groupMargin)) ≤ᶠ exactGroup kind system order window
-  pub not-far-above :
-      exactGroup kind system order window ≤ᶠ square (whole (valueOf kind system order window + groupMargin))
+  pub value-near : ValueNear kind system order window (valueOf kind system order window)
 
 -- "for every window in range, every kind, order and system"
 unfoldable pub GroupsNear : Type 0

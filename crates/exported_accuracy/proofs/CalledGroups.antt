@@ -66,7 +66,7 @@ called-group recording start buffer number system order before taken asked =
     let in-range = window-in-range recording start buffer taken in
     let near = groups-near (kindWith number) system order window (call .known-system) (omega arith) (bounds .1) in-range in
     let value = accepted-value (kindWith number) system order lines passed in
-    rw (asked, left, ← value) (record { not-far-below = near .not-far-below; not-far-above = near .not-far-above })
+    rw (asked, left, ← value) (near .value-near)
 
 pub called-row :
     (recording : List ℤ) (start : ℕ) (buffer : List ℕ) (number system : ℕ) (before : List ℕ) →

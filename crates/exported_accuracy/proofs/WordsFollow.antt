@@ -2,13 +2,15 @@
 -- The invariant: before the first fresh record there are 122 words, any; after it they are the words of the record after the list.
 use mathlib.Core.Path.{_≡_, refl, sym, ap, _∙_}
 use mathlib.Core.Bool.{Bool, true, false, cond, not}
-use mathlib.Core.List.{List, [], _∷_, _++_}
+use mathlib.Core.List.{List, [], _∷_, _++_, append-nil}
 use mathlib.Core.Option.{Option, none, some}
-use Prim.Native.Nat.{ℕ}
+use Prim.Native.Nat.{ℕ, _≤_}
 use native.Mathlib.Omega.{arith}
-use lib.Dec.{eqb}
-use lib.ListN.{length, length-append}
-use borrow.Author.Tests.{eq-eqb}
+use native.Mathlib.Decide.{decLe}
+use lib.Dec.{eqb, leb}
+use lib.ListN.{length, take, drop, length-append, length-take, take-append-drop, drop-of-length-le}
+use lib.Seq.{take-all}
+use borrow.Author.Tests.{eq-eqb, ne-eqb, le-leb, lt-leb}
 use Rattle.algebra.proofs.Lists.{length-tabulate}
 use Rattle.refusals.specs.Numbers.{noRefusal, unknownSystem}
 use Rattle.refusals.specs.Answers.{firstFault, unlessRefused}
@@ -23,7 +25,8 @@ use Rattle.kifsang.specs.Refusals.{wrongWordCount, ownFirst}
 use Rattle.kifsang.specs.Words.{recordWords, recordOf, wordsOf}
 use Rattle.kifsang.specs.RecordCalls.{lentRow, freshCallRefusal, freshCallWords, addRowCallRefusal, addRowCallWords}
 use Rattle.kifsang.proofs.RecordWords.{record-of-words}
-use Rattle.exported_accuracy.specs.Calls.{Call, freshRecord, addRow, askVerdict, Begun, wordsAtExit, wordsAfter, withCall, listAtExit, listAfter}
+use Rattle.exported_accuracy.specs.Calls.{Asked, freshRecord, addRow, askVerdict, Call, Begun}
+use Rattle.exported_accuracy.specs.Calls.{leftBy, wordsAtExit, wordsAfter, withCall, listAsked, listAtExit, listAfter}
 
 -- ---- records with 40 values in each part
 
@@ -88,8 +91,8 @@ follows-length (some list) words follows = ap length (follows .held) ∙ words-l
 fresh-follows :
     (system : ℕ) (begun : Option Begun) (words : List ℕ) →
     FollowsBegun begun words →
-    FollowsBegun (listAtExit begun (freshRecord system)) (freshCallWords system words)
-unfolding listAtExit freshCallWords freshCallRefusal freshRefusal recordAfter
+    FollowsBegun (listAsked begun (freshRecord system)) (freshCallWords system words)
+unfolding listAsked freshCallWords freshCallRefusal freshRefusal recordAfter
 fresh-follows system begun words follows =
     rw (eq-eqb (length words) recordWords (follows-length begun words follows)) (go (isSystem system) refl)
   where
@@ -141,8 +144,8 @@ row-follows (some list) words row follows =
 add-row-follows :
     (system : ℕ) (values : List ℕ) (begun : Option Begun) (words : List ℕ) →
     FollowsBegun begun words →
-    FollowsBegun (listAtExit begun (addRow system values)) (addRowCallWords words system values)
-unfolding listAtExit addRowCallWords addRowCallRefusal
+    FollowsBegun (listAsked begun (addRow system values)) (addRowCallWords words system values)
+unfolding listAsked addRowCallWords addRowCallRefusal
 add-row-follows system values begun words follows =
     rw (eq-eqb (length words) recordWords (follows-length begun words follows)) (go (eqb (length values) orderCount))
   where
@@ -160,14 +163,50 @@ add-row-follows system values begun words follows =
     go true = row-follows begun words row follows
     go false = follows
 
+asked-follows :
+    (asked : Asked) (begun : Option Begun) (words : List ℕ) →
+    FollowsBegun begun words →
+    FollowsBegun (listAsked begun asked) (leftBy words asked)
+unfolding leftBy listAsked
+asked-follows (freshRecord system) begun words follows = fresh-follows system begun words follows
+asked-follows (addRow system values) begun words follows = add-row-follows system values begun words follows
+asked-follows (askVerdict order unitsPerAmpere) begun words follows = follows
+
+-- other than 122 words stay as they were
+left-alone : (words : List ℕ) (asked : Asked) → (length words ≡ recordWords → ⊥) → leftBy words asked ≡ words
+unfolding leftBy freshCallWords freshCallRefusal addRowCallWords addRowCallRefusal
+left-alone words (freshRecord system) other = rw (ne-eqb (length words) recordWords other)
+left-alone words (addRow system values) other = rw (ne-eqb (length words) recordWords other)
+left-alone words (askVerdict order unitsPerAmpere) other = refl
+
 call-follows :
     (call : Call) (begun : Option Begun) (words : List ℕ) →
     FollowsBegun begun words →
     FollowsBegun (listAtExit begun call) (wordsAtExit words call)
 unfolding wordsAtExit listAtExit
-call-follows (freshRecord system) begun words follows = fresh-follows system begun words follows
-call-follows (addRow system values) begun words follows = add-row-follows system values begun words follows
-call-follows (askVerdict order unitsPerAmpere) begun words follows = follows
+call-follows call begun words follows = by-count (decLe recordWords (call .lent))
+  where
+    whole : length words ≡ recordWords
+    whole = follows-length begun words follows
+
+    by-count :
+        Dec (recordWords ≤ call .lent) →
+        FollowsBegun
+        (cond (leb recordWords (call .lent)) (listAsked begun (call .asked)) begun)
+        (leftBy (take (call .lent) words) (call .asked) ++ drop (call .lent) words)
+    by-count (yes all) =
+        rw (
+          le-leb recordWords (call .lent) all,
+          take-all (call .lent) words (omega (arith, whole)),
+          drop-of-length-le words {i = call .lent} (omega (arith, whole)),
+          append-nil,
+        )
+        (asked-follows (call .asked) begun words follows)
+    by-count (no fewer) =
+        let other : length (take (call .lent) words) ≡ recordWords → ⊥ =
+        λ e. omega (arith, length-take (call .lent) words, whole) in
+        rw (lt-leb recordWords (call .lent) (omega arith), left-alone (take (call .lent) words) (call .asked) other, take-append-drop)
+        follows
 
 -- ---- any calls
 

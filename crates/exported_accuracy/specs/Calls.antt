@@ -3,25 +3,36 @@ use mathlib.Core.Bool.{cond}
 use mathlib.Core.List.{List, [], _∷_, _++_}
 use mathlib.Core.Option.{Option, none, some}
 use Prim.Native.Nat.{ℕ}
-use lib.Dec.{eqb}
-use lib.ListN.{length}
+use lib.Dec.{eqb, leb}
+use lib.ListN.{length, take, drop}
 use Rattle.groups.specs.Group.{orderCount, isSystem}
 use Rattle.observation.specs.declared.Row.{Row}
+use Rattle.kifsang.specs.Words.{recordWords}
 use Rattle.kifsang.specs.RecordCalls.{lentRow, freshCallWords, addRowCallWords}
 
-pub data Call : Type 0 where
+-- what is asked of a record's words
+pub data Asked : Type 0 where
   -- kifsang_fresh_record with a system
-  freshRecord : ℕ → Call
+  freshRecord : ℕ → Asked
   -- kifsang_add_row with a system and values
-  addRow : ℕ → List ℕ → Call
+  addRow : ℕ → List ℕ → Asked
   -- kifsang_verdict with an order and units per ampere
-  askVerdict : ℕ → ℕ → Call
+  askVerdict : ℕ → ℕ → Asked
 
--- the words that a call leaves, by its contract; a verdict only reads them
+-- what some words hold at exit, by the contract of each function; a verdict only reads them
+unfoldable pub leftBy : List ℕ → Asked → List ℕ
+leftBy words (freshRecord system) = freshCallWords system words
+leftBy words (addRow system values) = addRowCallWords words system values
+leftBy words (askVerdict order unitsPerAmpere) = words
+
+-- a call lends so many of the caller's words from the first on, all of them where there are fewer
+pub record Call : Type 0 where
+  pub lent : ℕ
+  pub asked : Asked
+
+-- the caller's words after a call; those that are not lent stay
 unfoldable pub wordsAtExit : List ℕ → Call → List ℕ
-wordsAtExit words (freshRecord system) = freshCallWords system words
-wordsAtExit words (addRow system values) = addRowCallWords words system values
-wordsAtExit words (askVerdict order unitsPerAmpere) = words
+wordsAtExit words call = leftBy (take (call .lent) words) (call .asked) ++ drop (call .lent) words
 
 -- each call gets the words that the call before left
 unfoldable pub wordsAfter : List ℕ → List Call → List ℕ
@@ -38,12 +49,16 @@ unfoldable pub withCall : Option Begun → Row → Option Begun
 withCall none row = none
 withCall (some list) row = some (record { system = list .system; rows = list .rows ++ (row ∷ []) })
 
--- "A fresh record begins another list": one that is not refused. Values that are not 40 are no row, and the call is refused before it looks at the record.
-unfoldable pub listAtExit : Option Begun → Call → Option Begun
-listAtExit begun (freshRecord system) = cond (isSystem system) (some (record { system = system; rows = [] })) begun
-listAtExit begun (addRow system values) =
+-- "A fresh record begins another list": one that is not refused. Values that are not 40 are no row.
+unfoldable pub listAsked : Option Begun → Asked → Option Begun
+listAsked begun (freshRecord system) = cond (isSystem system) (some (record { system = system; rows = [] })) begun
+listAsked begun (addRow system values) =
     cond (eqb (length values) orderCount) (withCall begun (lentRow system values)) begun
-listAtExit begun (askVerdict order unitsPerAmpere) = begun
+listAsked begun (askVerdict order unitsPerAmpere) = begun
+
+-- a call that lends fewer than 122 words is refused before it looks at the record
+unfoldable pub listAtExit : Option Begun → Call → Option Begun
+listAtExit begun call = cond (leb recordWords (call .lent)) (listAsked begun (call .asked)) begun
 
 -- the list that the calls have come to; none before the first fresh record
 unfoldable pub listAfter : Option Begun → List Call → Option Begun

@@ -5,17 +5,16 @@ use mathlib.Core.Option.{none, some}
 use Prim.Native.Nat.{ℕ, _+_, _-_, _<_, _≤_}
 use lib.IntN.{ℤ}
 use lib.ListN.{length, getD}
-use Rattle.algebra.specs.Fraction.{whole, square, _+ᶠ_, _≤ᶠ_}
+use Rattle.algebra.specs.Fraction.{whole, _+ᶠ_, _≤ᶠ_}
 use Rattle.refusals.specs.Numbers.{noRefusal}
 use Rattle.spectrum.specs.Line.{windowAt}
 use Rattle.spectrum.specs.Spectrum.{spectrumRefusal, spectrumBuffer}
 use Rattle.groups.specs.declared.Kind.{Kind}
 use Rattle.groups.specs.Group.{orderCount}
-use Rattle.groups.specs.Exact.{exactGroup}
 use Rattle.verdict.specs.declared.Verdict.{Verdict}
 use Rattle.verdict.specs.Tests.{band}
 use Rattle.verdict.specs.Call.{orderNumber}
-use Rattle.accuracy.specs.Distance.{groupMargin}
+use Rattle.accuracy.specs.Distance.{ValueNear}
 use Rattle.accuracy.specs.Claim.{Worked, WorkedList, LBook, UBook, after, state, Keeps, ListHolds}
 use Rattle.kifsang.specs.Kinds.{kindWith}
 use Rattle.kifsang.specs.GroupCalls.{groupCallRefusal, groupCallValue, rowCallRefusal, rowCallValues}
@@ -57,18 +56,13 @@ pub record WordsHold (kind : Kind) (list : Begun) (words : List ℕ) : Type 0 wh
       verdictCallRefusal words order unitsPerAmpere ≡ noRefusal →
       CalledVerdict kind list words order unitsPerAmpere
 
--- the group value that is left for the lines of a window, next to the exact group
-pub record CalledGroupNear (kind : Kind) (system order : ℕ) (window : List ℤ) (value : ℕ) : Type 0 where
-  pub not-far-below : square (whole (value - groupMargin)) ≤ᶠ exactGroup kind system order window
-  pub not-far-above : exactGroup kind system order window ≤ᶠ square (whole (value + groupMargin))
-
 -- kifsang_spectrum of a recording, and then a call for its lines, neither refused
 module _ (recording : List ℤ) (start : ℕ) (buffer : List ℕ) (number system : ℕ) where
   abbrev pub CalledGroup : ℕ → ℕ → Type 0
   CalledGroup order before =
       spectrumRefusal recording start buffer ≡ noRefusal →
       groupCallRefusal number system order (spectrumBuffer recording start buffer) ≡ noRefusal →
-      CalledGroupNear (kindWith number) system order (windowAt recording start)
+      ValueNear (kindWith number) system order (windowAt recording start)
       (groupCallValue number system order (spectrumBuffer recording start buffer) before)
 
   abbrev pub CalledRow : List ℕ → Type 0
@@ -80,7 +74,7 @@ module _ (recording : List ℤ) (start : ℕ) (buffer : List ℕ) (number system
       (lentRow system (rowCallValues number system (spectrumBuffer recording start buffer) before))
       (windowAt recording start)
 
--- Demand 3 for the exported calls: the distance of a group value; a row that is worked from samples; and for any calls on any 122 words, refused ones included, the claim about the list that they have come to, where its accepted rows are worked from samples of one kind.
+-- Demand 3 for the exported calls: the distance of a group value; a row that is worked from samples; and for any calls on any 122 words, refused ones and ones that lend fewer words included, the claim about the list that they have come to, where its accepted rows are worked from samples of one kind.
 pub record ExportedDemand3Holds : Type 0 where
   pub groups :
       (recording : List ℤ) (start : ℕ) (buffer : List ℕ) (number system order before : ℕ) →

@@ -1,4 +1,4 @@
--- The exported calls in figures: the interface's own refusals, each two neighbouring checks in their order, and what the caller's numbers and words hold after. Each call has a table of rows and one computed theorem over it; a lent number is 77 before the call, a lent word 7.
+-- The exported calls in figures: the interface's own refusals, each two neighbouring checks in their order, and what the caller's numbers and words hold after. Each call has a table of rows and one computed theorem over it; a lent number is 77 before the call, a lent word 7. kifsang_spectrum and kifsang_write_column have no check of their own: their tables are those of `spectrum` and `columns`.
 use mathlib.Core.Path.{_≡_, refl}
 use mathlib.Core.List.{List, [], _∷_, _++_, map}
 use Prim.Native.Nat.{ℕ, _+_, _*_, _^_}
@@ -83,7 +83,7 @@ distortions-worked = refl
 
 -- ---- kifsang_verdict
 
--- a record of one window with one value at every order
+-- a record of system 10 with so many windows, and one number at every place after them
 recordWith : ℕ → ℕ → List ℕ
 recordWith windows value = 10 ∷ windows ∷ replicate 120 value
 
@@ -158,6 +158,12 @@ add-rows-worked :
     ((addFor (10 ∷ replicate 121 0) 10 (replicate 40 8944), (0, 10 ∷ 1 ∷ replicate 120 8944)) ∷
     -- •8 in words: smoothed, sum and peak of each order
     (addFor (recordWith 1 8944) 10 (replicate 40 0), (0, 10 ∷ 2 ∷ replicate 40 7828 ++ (replicate 40 16772 ++ replicate 40 8944))) ∷
+    -- the weights 1000 and 7012 on the largest value
+    (
+      addFor (recordWith 1 4294967295) 10 (replicate 40 0),
+      (0, 10 ∷ 2 ∷ replicate 40 3758900483 ++ (replicate 40 8053867778 ++ replicate 40 4294967295)),
+    ) ∷
+    (addFor (10 ∷ 1 ∷ replicate 120 0) 10 (replicate 40 4294967295), (0, 10 ∷ 2 ∷ replicate 120 536066812)) ∷
     -- 102 before 7 before 1 before 8 before 9
     (addFor (replicate 121 7) 11 (replicate 40 1), (102, replicate 121 7)) ∷
     (addFor (replicate 122 7) 11 (replicate 39 1), (102, replicate 122 7)) ∷

@@ -1,4 +1,4 @@
--- The margins of demand 3 in figures, at each system: 7 units for a group value, 12 for a smoothed one, and what the three verdicts of order 3 say against its limit of 2,300 mA. The claims name their numbers, and a weaker one would be proved as well; here it is refused.
+-- The margins of demand 3 in figures, at each system: 7 units for a group value, 12 for a smoothed one, and what the numbers of the three verdicts of order 3 say against its limit of 2,300 mA. The claims name their numbers, and a weaker one would be proved as well; here it is refused.
 use mathlib.Core.Path.{_≡_, refl, ap}
 use mathlib.Core.Bool.{true}
 use mathlib.Core.List.{List}
@@ -57,7 +57,7 @@ within-7 kind order window least most in-range = (at 10 refl, at 12 refl)
         isSystem system ≡ true →
         Within7 (groupAnswer kind system order (linesOf window) .value) (exactGroup kind system order window)
     at system known =
-        let near = demand3 .groups kind system order window known least most in-range in
+        let near = demand3 .groups kind system order window known least most in-range .value-near in
         (omega (arith, near .not-far-below), omega (arith, near .not-far-above))
 
 -- the harmonic group (kind 1) that the exported calls leave for a recording, neither refused
@@ -102,44 +102,44 @@ within-12 kind rows order least most = (at 10 refl, at 12 refl)
 
 module _ (kind : Kind) (system : ℕ) (rows : List Row) (k : ℕ) where
   -- 1: every l book's average is at most the limit, and its peak at most 150 % of it
-  abbrev Outcome1 : Type 0
-  Outcome1 =
+  abbrev SaysWithin : Type 0
+  SaysWithin =
       (l : LBook kind system rows 3) →
       let book = state kind system rows l in
       (book .sum .num * 1000 ≤ 2300 * k * (max (book .count) 1 * book .sum .den)) ×
       (book .peak .num * 2000 ≤ 6900 * k * book .peak .den)
 
   -- 2: the reported average less 12 is at most the limit and with 12 more above it, or so the reported peak with 150 % of it
-  abbrev Outcome2 : Type 0
-  Outcome2 =
+  abbrev SaysClose : Type 0
+  SaysClose =
       let book = reportedBook kind system rows 3 in
       let n = max (book .count) 1 in
       ((book .sum * 1000 ≤ 2300 * k * n + 12000 * n) × (2300 * k * n < book .sum * 1000 + 12000 * n)) ⊎
       ((book .peak * 2000 ≤ 6900 * k + 24000) × (6900 * k < book .peak * 2000 + 24000))
 
   -- 3: every u book's average is above the limit, or every u book's peak above 150 % of it
-  abbrev Outcome3 : Type 0
-  Outcome3 =
+  abbrev SaysOver : Type 0
+  SaysOver =
       ((u : UBook kind system rows 3) →
       let book = state kind system rows u in 2300 * k * (max (book .count) 1 * book .sum .den) < book .sum .num * 1000) ⊎
       ((u : UBook kind system rows 3) →
       let book = state kind system rows u in 6900 * k * book .peak .den < book .peak .num * 2000)
 
   -- the number is one of the three, and tells what stands with it
-  abbrev Outcome : ℕ → Type 0
-  Outcome number = ((number ≡ 1) × Outcome1) ⊎ (((number ≡ 2) × Outcome2) ⊎ ((number ≡ 3) × Outcome3))
+  abbrev NumberSays : ℕ → Type 0
+  NumberSays number = ((number ≡ 1) × SaysWithin) ⊎ (((number ≡ 2) × SaysClose) ⊎ ((number ≡ 3) × SaysOver))
 
-  outcome-of : (verdict : Verdict) → Keeps kind system rows 3 k verdict → Outcome (verdictNumber verdict)
+  verdict-number-says : (verdict : Verdict) → Keeps kind system rows 3 k verdict → NumberSays (verdictNumber verdict)
   unfolding Keeps verdictNumber limitInUnits peakLimitInUnits limitOf figureIn ownFigures overOrder whole scale divide _+ᶠ_
-  outcome-of (Within h) keeps = inl (refl, λ l. (omega (arith, keeps l .0), omega (arith, keeps l .1)))
-  outcome-of (Close h) keeps =
-      let touches : Outcome2 =
+  verdict-number-says (Within h) keeps = inl (refl, λ l. (omega (arith, keeps l .0), omega (arith, keeps l .1)))
+  verdict-number-says (Close h) keeps =
+      let touches : SaysClose =
       ⊎-map
       (λ average. (omega (arith, average .not-over), omega (arith, average .not-within)))
       (λ peak. (omega (arith, peak .not-over), omega (arith, peak .not-within)))
       keeps in
       inr (inl (refl, touches))
-  outcome-of (Over h) keeps =
+  verdict-number-says (Over h) keeps =
       inr (inr (refl, ⊎-map (λ every u. omega (arith, every u)) (λ every u. omega (arith, every u)) keeps))
 
 -- ---- the words after any exported calls
@@ -160,10 +160,10 @@ module _
         (omega (arith, holds .smoothed-low order least most l), omega (arith, holds .smoothed-high order least most u))
 
     -- what the number of a verdict of order 3 tells, whatever it was before the call
-    words-outcome :
+    words-verdict-number :
         (k before : ℕ) →
         verdictCallRefusal (wordsAfter words calls) 3 k ≡ 0 →
-        Outcome kind system rows k (verdictCallNumber (wordsAfter words calls) 3 k before)
-    words-outcome k before asked =
+        NumberSays kind system rows k (verdictCallNumber (wordsAfter words calls) 3 k before)
+    words-verdict-number k before asked =
         let given = holds .verdicts 3 k asked in
-        rw (given .number before) (outcome-of kind system rows k (given .verdict) (given .kept))
+        rw (given .number before) (verdict-number-says kind system rows k (given .verdict) (given .kept))
