@@ -18,7 +18,7 @@ use Rattle.recordings.specs.Blocks.{joined, readingAfter, WholeButLast, CutInBl
 use Rattle.recordings.proofs.WindowAdded.{block-added}
 use Rattle.recordings.proofs.Follows.{follows-definition, reading-of-append}
 use Rattle.harmlist.specs.declared.Input.{Input}
-use Rattle.harmlist.specs.Input.{LineRead, BlockRead, Ends, BlocksRead, TextRead}
+use Rattle.harmlist.specs.Input.{BytesRead, LineRead, BlockRead, Ends, BlocksRead, TextRead}
 
 -- ---- two tests
 
@@ -29,6 +29,14 @@ one-holds false b e = inr e
 pub first-fails : (a b : Bool) → (a || b) ≡ false → a ≡ false
 first-fails true b e = absurd (true≢false e)
 first-fails false b e = refl
+
+-- ---- all the bytes that were asked for
+
+bytes-whole :
+    (most : ℕ) (readAs : List ℕ → Reading) (input : Input) (read : BytesRead most readAs input) →
+    input .short ≡ false →
+    length (read .bytes) ≡ most
+bytes-whole most readAs input read e = omega (arith, read .fits, ltb-false (length (read .bytes)) most (sym (read .short-is) ∙ e))
 
 -- ---- lists of blocks
 
@@ -90,29 +98,29 @@ module _ (first reading : Reading) (so-far : SoFar first reading) where
   }
 
   module _ (input : Input) (read : BlockRead reading input) where
-    reading-next : input .reading ≡ readingAfter first (so-far .blocks ++ (read .block ∷ []))
+    reading-next : input .reading ≡ readingAfter first (so-far .blocks ++ (read .bytes ∷ []))
     reading-next =
         read .reading-is
-        ∙ ap (λ (r : Reading). blockOf r (read .block)) (so-far .reading-is)
-        ∙ sym (reading-and-one first (so-far .blocks) (read .block))
+        ∙ ap (λ (r : Reading). blockOf r (read .bytes)) (so-far .reading-is)
+        ∙ sym (reading-and-one first (so-far .blocks) (read .bytes))
 
     -- with the last block
     pub ends-with : Ends input → BlocksRead first input
     ends-with ends = record {
-      blocks = so-far .blocks ++ (read .block ∷ []);
-      cut = whole-and-last (so-far .blocks) (read .block) (so-far .whole) (read .fits);
+      blocks = so-far .blocks ++ (read .bytes ∷ []);
+      cut = whole-and-last (so-far .blocks) (read .bytes) (so-far .whole) (read .fits);
       reading-is = reading-next;
       ends = ends;
     }
 
     module _ (goes-on : input .short ≡ false) where
-      is-whole : length (read .block) ≡ windowBytes
-      is-whole = omega (arith, read .fits, ltb-false (length (read .block)) windowBytes (sym (read .short-is) ∙ goes-on))
+      is-whole : length (read .bytes) ≡ windowBytes
+      is-whole = bytes-whole _ _ _ read goes-on
 
       pub next : SoFar first (input .reading)
       next = record {
-        blocks = so-far .blocks ++ (read .block ∷ []);
-        whole = whole-and-one (so-far .blocks) (read .block) (so-far .whole) is-whole;
+        blocks = so-far .blocks ++ (read .bytes ∷ []);
+        whole = whole-and-one (so-far .blocks) (read .bytes) (so-far .whole) is-whole;
         reading-is = reading-next;
       }
 
@@ -122,9 +130,9 @@ module _ (first reading : Reading) (so-far : SoFar first reading) where
         where
           by-refusal : Dec (input .reading .refusal ≡ noRefusal) → blocksLeft (input .reading) < blocksLeft reading
           by-refusal (yes z) =
-              let after : blockOf reading (read .block) .refusal ≡ noRefusal =
+              let after : blockOf reading (read .bytes) .refusal ≡ noRefusal =
               sym (ap (λ (r : Reading). r .refusal) (read .reading-is)) ∙ z in
-              let added = block-added reading (read .block) (λ none. omega (arith, is-whole)) after in
+              let added = block-added reading (read .bytes) (λ none. omega (arith, is-whole)) after in
               let windows = ap (λ (r : Reading). r .observation .windows) (read .reading-is) in
               rw (eq-eqb (reading .refusal) noRefusal e, eq-eqb (input .reading .refusal) noRefusal z)
               (omega (arith, added, windows))
@@ -135,31 +143,28 @@ module _ (first reading : Reading) (so-far : SoFar first reading) where
 module _ (line : Input) (read : LineRead line) where
   -- the blocks after the line give what harmlist writes
   text-read :
-      (input : Input) (blocks : List (List ℕ)) → CutInBlocks (read .line) blocks →
+      (input : Input) (blocks : List (List ℕ)) → CutInBlocks (read .bytes) blocks →
       input .reading ≡ readingAfter (line .reading) blocks → Ends input → TextRead input
   text-read input blocks cut after ends = record {
-    text = read .line ++ joined blocks;
+    text = read .bytes ++ joined blocks;
     output-is =
         ap outputOf (after ∙ ap (λ (r : Reading). readingAfter r blocks) (read .reading-is))
-        ∙ follows-definition (read .line) blocks cut;
+        ∙ follows-definition (read .bytes) blocks cut;
     ends = ends;
   }
 
-  line-whole : line .short ≡ false → length (read .line) ≡ lineBytes
-  line-whole e = omega (arith, read .fits, ltb-false (length (read .line)) lineBytes (sym (read .short-is) ∙ e))
-
-  line-short : line .short ≡ true → length (read .line) < lineBytes
-  line-short e = ltb-true (length (read .line)) lineBytes (sym (read .short-is) ∙ e)
+  line-short : line .short ≡ true → length (read .bytes) < lineBytes
+  line-short e = ltb-true (length (read .bytes)) lineBytes (sym (read .short-is) ∙ e)
 
   -- no block is read after a line that is short, or whose read failed
   pub line-ends : Ends line → TextRead line
   unfolding readingAfter WholeButLast
   line-ends ends = text-read line [] (cut (line .short) refl) refl ends
     where
-      cut : (short : Bool) → line .short ≡ short → CutInBlocks (read .line) []
+      cut : (short : Bool) → line .short ≡ short → CutInBlocks (read .bytes) []
       cut true e = inr (line-short e, refl)
-      cut false e = inl (line-whole e, tt)
+      cut false e = inl (bytes-whole _ _ _ read e, tt)
 
   pub text-ends : (input : Input) → line .short ≡ false → BlocksRead (line .reading) input → TextRead input
   text-ends input e blocks-read =
-      text-read input (blocks-read .blocks) (inl (line-whole e, blocks-read .cut)) (blocks-read .reading-is) (blocks-read .ends)
+      text-read input (blocks-read .blocks) (inl (bytes-whole _ _ _ read e, blocks-read .cut)) (blocks-read .reading-is) (blocks-read .ends)

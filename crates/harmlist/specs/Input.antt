@@ -14,19 +14,20 @@ use Rattle.recordings.specs.Reading.{windowBytes, beginOf, blockOf, outputOf}
 use Rattle.recordings.specs.Blocks.{WholeButLast, readingAfter}
 use Rattle.harmlist.specs.declared.Input.{Input}
 
--- the first line was read, or fewer bytes
-pub record LineRead (input : Input) : Type 0 where
-  pub line : List ℕ
-  pub fits : length line ≤ lineBytes
-  pub short-is : input .short ≡ ltb (length line) lineBytes
-  pub reading-is : input .reading ≡ beginOf line
+-- so many bytes were read, or fewer, and what they are read as
+pub record BytesRead (most : ℕ) (readAs : List ℕ → Reading) (input : Input) : Type 0 where
+  pub bytes : List ℕ
+  pub fits : length bytes ≤ most
+  pub short-is : input .short ≡ ltb (length bytes) most
+  pub reading-is : input .reading ≡ readAs bytes
 
--- a window's lines were read, or fewer bytes
-pub record BlockRead (before : Reading) (input : Input) : Type 0 where
-  pub block : List ℕ
-  pub fits : length block ≤ windowBytes
-  pub short-is : input .short ≡ ltb (length block) windowBytes
-  pub reading-is : input .reading ≡ blockOf before block
+-- the first line
+abbrev pub LineRead : Input → Type 0
+LineRead = BytesRead lineBytes beginOf
+
+-- a window's lines
+abbrev pub BlockRead : Reading → Input → Type 0
+BlockRead before = BytesRead windowBytes (blockOf before)
 
 -- why no more is read: the reading is refused, the last block was short, or a read failed
 abbrev pub Ends : Input → Type 0

@@ -28,7 +28,7 @@ returns c =
     let full = c .before .before .before .read-full in
     let count = full .result .count in
     record {
-      block = take count (full .last .0);
+      bytes = take count (full .last .0);
       fits = omega (arith, full .ensures, full .kept);
       short-is = ap (λ n. ltb n windowBytes) (full .ensures .1);
       reading-is = c .take-block .ensures;

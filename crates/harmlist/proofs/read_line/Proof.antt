@@ -28,7 +28,7 @@ returns c =
     let full = c .before .before .before .read-full in
     let count = full .result .count in
     record {
-      line = take count (full .last .0);
+      bytes = take count (full .last .0);
       fits = omega (arith, full .ensures, full .kept);
       short-is = ap (λ n. ltb n lineBytes) (full .ensures .1);
       reading-is = c .begin .ensures;
