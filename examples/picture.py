@@ -1,7 +1,11 @@
-#!/usr/bin/env python3
+#!/bin/sh
+# Python cannot begin where standard input is a folder, so sh looks first; Python reads this as a text.
+''''[ -d /dev/stdin ] && echo "picture.py: standard input: Is a directory" >&2 && exit 1
+exec python3 "$0" "$@" #'''
 """Draws a report of examples/c/report.c as a picture: for each order a bar of the average with its
 band, in the colour of the verdict, and the peak as a ring, beside their limits. Limits, band and
-verdicts are those of the report. Writes SVG; refuses what is no report, with status 1.
+verdicts are those of the report. Writes SVG; refuses what is no report, with status 1, and every
+argument, with status 2.
 
     report UNITS_PER_AMPERE < recording | picture.py > picture.svg
 """
@@ -14,7 +18,7 @@ from typing import NamedTuple, Optional
 ORDERS = 40
 HEAD = ["system", "windows", "units per ampere", "band, units"]
 COLUMNS = "order  average, units  peak, units  limit, mA  peak limit, mA  verdict"
-WHOLE, DECIMAL = " +([0-9]+)", r" +([0-9]+\.[0-9]+)"
+WHOLE, DECIMAL = " +([0-9]{1,20})", r" +([0-9]{1,20}\.[0-9]{1,20})"
 LINE = re.compile(f"{WHOLE}{DECIMAL}{WHOLE}(?:{DECIMAL}{DECIMAL}  (within|close|over)| +-  +-  -)")
 COLOURS = {"within": "#2e6da4", "close": "#e39b1f", "over": "#c0392b", None: "#8a8f94"}
 
@@ -123,12 +127,23 @@ def picture(head, orders):
 
 
 def main():
+    if len(sys.argv) > 1:
+        print("usage: picture.py < REPORT > PICTURE", file=sys.stderr)
+        return 2
+    place = "standard input"
     try:
-        head, orders = read_report(sys.stdin.read())
+        with open(0, "rb", closefd=False) as file:
+            text = file.read().decode("ascii", "replace")  # no report has the sign for another byte
+        drawn = "\n".join(picture(*read_report(text))) + "\n"
+        place = "standard output"
+        with open(1, "wb", closefd=False) as file:
+            file.write(drawn.encode())
+    except OSError as fault:
+        print(f"picture.py: {place}: {fault.strerror}", file=sys.stderr)
+        return 1
     except ValueError as fault:
         print(f"picture.py: {fault}", file=sys.stderr)
         return 1
-    print("\n".join(picture(head, orders)))
     return 0
 
 

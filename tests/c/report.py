@@ -1,6 +1,7 @@
 #!/usr/bin/env python3
 """Recordings with faults: examples/c/report.c must write the line that harmlist writes, with the
-number that stands here, and end with status 1; examples/picture.py must refuse that line.
+number that stands here, and end with status 1; examples/picture.py must refuse that line. Both must
+fail by their status where an input cannot be read or an output not written.
 
     report.py REPORT HARMLIST PICTURE
 """
@@ -8,6 +9,7 @@ number that stands here, and end with status 1; examples/picture.py must refuse 
 import os
 import subprocess
 import sys
+import tempfile
 
 SCALE = "16384000"
 
@@ -57,7 +59,7 @@ SCALES = ["0", "268435457", "4294967296", "4311351296", "99999999999999999999", 
 
 def run(command, text):
     """What a program writes, on both outputs, and its status."""
-    done = subprocess.run(command, input=text.encode(), capture_output=True, check=False)
+    done = subprocess.run(command, input=text.encode("latin-1"), capture_output=True, check=False)
     return done.stdout, done.stderr, done.returncode
 
 
@@ -91,10 +93,24 @@ def main():
     good = run([report, SCALE], whole)[0].decode()
     same("picture of a report", run([picture], good)[1:], (b"", 0))
     others = ["", "\n", "refused 13\n", listing, good[:-1], good + "\n", good + good, good.replace("within", "Within", 1)]
+    others += ["\xff", good.replace("limit", "limit\xff", 1), good.replace(".", "9" * 400 + ".", 1), good.replace(SCALE, "9" * 400, 1)]
     others += [good.replace("band, units", "band", 1), good.replace("limit", "Limit", 1), good.replace("\n    7 ", "\n    8 ", 1)]
     for text in others:
         out, said, status = run([picture], text)
         same(f"picture of {text[:40]!r}", (out, said.count(b"\n"), status), (b"", 1, 1))
+    same("picture with an argument", run([picture, "report.txt"], good), (b"", b"usage: picture.py < REPORT > PICTURE\n", 2))
+    with open("/dev/full", "wb") as full, tempfile.TemporaryFile() as report_file:
+        report_file.write(good.encode())
+        for fault, options in [
+            ("input: Is a directory", {"stdin": folder}),
+            ("input: Bad file descriptor", {"preexec_fn": lambda: os.close(0)}),
+            ("output: No space left on device", {"stdout": full}),
+            ("output: Bad file descriptor", {"preexec_fn": lambda: os.close(1)}),
+        ]:
+            report_file.seek(0)
+            options = {"stdin": report_file, "stdout": subprocess.PIPE} | options
+            done = subprocess.run([picture], stderr=subprocess.PIPE, check=False, **options)
+            same(f"picture, {fault}", (done.stdout or b"", done.stderr, done.returncode), (b"", f"picture.py: standard {fault}\n".encode(), 1))
     print(f"{len(FAULTY)} faulty recordings: the report and harmlist alike; {len(others)} texts that are no report: not drawn")
 
 

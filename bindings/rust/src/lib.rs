@@ -6,6 +6,10 @@
 //! of the first check that failed, in the order listed with it; a refused call leaves every buffer as
 //! it was. Calls share no state, so they may run on several threads. Values are in units of 1/4096
 //! sample count, r.m.s.
+//!
+//! The build links `libkifsang.a` from `target/staticlib` of the repository, where `make` writes it, or
+//! from the folder that the variable `KIFSANG_ARCHIVE_FOLDER` names; a relative one counts from this
+//! package's folder. Where there is no archive the build stops and says where it looked.
 
 use std::fmt;
 

@@ -1,12 +1,14 @@
 //! Compares the proved core, through its C interface, with the second program of `tests/reference`,
 //! call by call: spectra, all kinds, orders and systems, distortion, records, verdicts, columns and
 //! listings, on valid and on damaged arguments. Every buffer is compared after every call, refused
-//! ones too. With the path of the built `harmlist` as its argument it compares that program instead,
-//! byte for byte. The seed is fixed, so that a run can be repeated.
+//! ones too; the numbers that the wrappers' names stand for are compared with figures first. With the
+//! path of the built `harmlist` as its argument it compares that program instead, byte for byte. The
+//! seed is fixed, so that a run can be repeated.
 
 mod columns;
 mod examples;
 mod harmlist;
+mod names;
 mod records;
 mod windows;
 
@@ -44,6 +46,7 @@ fn main() {
     match std::env::args().nth(1) {
         Some(program) => harmlist::compare(&mut tally, &program, SEED),
         None => {
+            names::compare();
             windows::compare(&mut tally, SEED);
             records::compare(&mut tally, SEED);
             columns::compare(&mut tally, SEED);

@@ -1,0 +1,128 @@
+/* Every name of include/kifsang.h that stands for a number, with its figure; and the kinds and places
+ * by name, on calls whose answers document 01 has in figures. With an argument it prints the names
+ * instead, a line for each, so that they can be compared with those of the header. */
+#include "kifsang.h"
+
+#include <inttypes.h>
+#include <stdio.h>
+#include <stdlib.h>
+
+#define COUNT_OF(array) (sizeof(array) / sizeof((array)[0]))
+
+#define NAME(name, figure) {#name, name, figure}
+
+static const struct {
+    const char *name;
+    uint64_t number, figure;
+} names[] = {
+    NAME(KIFSANG_WINDOW_LENGTH, 2048),
+    NAME(KIFSANG_LINE_COUNT, 512),
+    NAME(KIFSANG_ORDER_COUNT, 40),
+    NAME(KIFSANG_UNITS_PER_COUNT, 4096),
+    NAME(KIFSANG_LARGEST_SAMPLE, 131071),
+    NAME(KIFSANG_LARGEST_SCALE, 268435456),
+    NAME(KIFSANG_MOST_WINDOWS, 45000),
+    NAME(KIFSANG_COLUMN_WIDTH, 8),
+    NAME(KIFSANG_LISTING_ROOM, 1640),
+
+    NAME(KIFSANG_SYSTEM_PLACE, 0),
+    NAME(KIFSANG_WINDOWS_PLACE, 1),
+    NAME(KIFSANG_SMOOTHED_PLACE, 2),
+    NAME(KIFSANG_SUM_PLACE, 42),
+    NAME(KIFSANG_PEAK_PLACE, 82),
+    NAME(KIFSANG_RECORD_WORDS, 122),
+
+    NAME(KIFSANG_NO_REFUSAL, 0),
+    NAME(KIFSANG_UNKNOWN_SYSTEM, 1),
+    NAME(KIFSANG_SHORT_WINDOW, 2),
+    NAME(KIFSANG_SAMPLE_OUT_OF_RANGE, 3),
+    NAME(KIFSANG_WRONG_LINE_COUNT, 4),
+    NAME(KIFSANG_LINE_TOO_LARGE, 5),
+    NAME(KIFSANG_ORDER_OUT_OF_RANGE, 6),
+    NAME(KIFSANG_UNSOUND_RECORD, 7),
+    NAME(KIFSANG_OTHER_SYSTEM, 8),
+    NAME(KIFSANG_RECORD_FULL, 9),
+    NAME(KIFSANG_NO_WINDOW, 10),
+    NAME(KIFSANG_SCALE_OUT_OF_RANGE, 11),
+    NAME(KIFSANG_NO_FUNDAMENTAL, 12),
+    NAME(KIFSANG_NOT_A_COLUMN, 13),
+    NAME(KIFSANG_WRONG_BUFFER_LENGTH, 14),
+    NAME(KIFSANG_UNKNOWN_KIND, 101),
+    NAME(KIFSANG_WRONG_WORD_COUNT, 102),
+
+    NAME(KIFSANG_COMPONENT, 0),
+    NAME(KIFSANG_HARMONIC_GROUP, 1),
+    NAME(KIFSANG_HARMONIC_SUBGROUP, 2),
+    NAME(KIFSANG_INTERHARMONIC_GROUP, 3),
+    NAME(KIFSANG_INTERHARMONIC_CENTRED_SUBGROUP, 4),
+
+    NAME(KIFSANG_WITHIN, 1),
+    NAME(KIFSANG_CLOSE, 2),
+    NAME(KIFSANG_OVER, 3),
+};
+
+/* Every line of the pulse, document 01's worked numbers 3 to 7 at system 10: no two kinds are alike. */
+static const uint64_t pulse_line = 4000000;
+static const struct {
+    const char *name;
+    uint32_t kind;
+    uint64_t value;
+} kinds[] = {
+    {"component", KIFSANG_COMPONENT, 2828},
+    {"harmonic group", KIFSANG_HARMONIC_GROUP, 8944},
+    {"harmonic subgroup", KIFSANG_HARMONIC_SUBGROUP, 4898},
+    {"interharmonic group", KIFSANG_INTERHARMONIC_GROUP, 8485},
+    {"interharmonic centred subgroup", KIFSANG_INTERHARMONIC_CENTRED_SUBGROUP, 7483},
+};
+
+static void same(const char *what, uint64_t found, uint64_t figure)
+{
+    if (found == figure)
+        return;
+    printf("%s is %" PRIu64 " and must be %" PRIu64 "\n", what, found, figure);
+    exit(1);
+}
+
+static void try_kinds(void)
+{
+    uint64_t lines[512];
+    for (size_t i = 0; i < COUNT_OF(lines); i++)
+        lines[i] = pulse_line;
+    for (size_t i = 0; i < COUNT_OF(kinds); i++) {
+        uint64_t value = 0;
+        same("the refusal of a group value", kifsang_group_value(kinds[i].kind, 10, 1, lines, 512, &value), 0);
+        same(kinds[i].name, value, kinds[i].value);
+    }
+}
+
+/* The rows of worked number 8, 8944 and then 0, for order 1. */
+static void try_places(void)
+{
+    uint64_t record[122];
+    uint32_t values[40] = {8944};
+    same("the refusal of a fresh record", kifsang_fresh_record(10, record, 122), 0);
+    same("the refusal of the first row", kifsang_add_row(record, 122, 10, values, 40), 0);
+    values[0] = 0;
+    same("the refusal of the second row", kifsang_add_row(record, 122, 10, values, 40), 0);
+    same("the system of a record", record[KIFSANG_SYSTEM_PLACE], 10);
+    same("the windows of a record", record[KIFSANG_WINDOWS_PLACE], 2);
+    same("the smoothed value of a record", record[KIFSANG_SMOOTHED_PLACE], 7828);
+    same("the sum of a record", record[KIFSANG_SUM_PLACE], 8944 + 7828);
+    same("the peak of a record", record[KIFSANG_PEAK_PLACE], 8944);
+}
+
+int main(int argument_count, char **arguments)
+{
+    (void)arguments;
+    if (argument_count > 1) {
+        for (size_t i = 0; i < COUNT_OF(names); i++)
+            puts(names[i].name);
+        return 0;
+    }
+    for (size_t i = 0; i < COUNT_OF(names); i++)
+        same(names[i].name, names[i].number, names[i].figure);
+    try_kinds();
+    try_places();
+    printf("%lu names of the header, all with their figures\n", (unsigned long)COUNT_OF(names));
+    return 0;
+}
