@@ -1,7 +1,4 @@
-#!/bin/sh
-# Python cannot begin where standard input is a folder, so sh looks first; Python reads this as a text.
-''''[ -d /dev/stdin ] && echo "picture.py: standard input: Is a directory" >&2 && exit 1
-exec python3 "$0" "$@" #'''
+#!/usr/bin/env python3
 """Draws a report of examples/c/report.c as a picture: for each order a bar of the average with its
 band, in the colour of the verdict, and the peak as a ring, beside their limits. Limits, band and
 verdicts are those of the report. Writes SVG; refuses what is no report, with status 1, and every

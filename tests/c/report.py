@@ -98,11 +98,12 @@ def main():
     for text in others:
         out, said, status = run([picture], text)
         same(f"picture of {text[:40]!r}", (out, said.count(b"\n"), status), (b"", 1, 1))
+    done = subprocess.run([picture], stdin=folder, capture_output=True, check=False)  # Python itself refuses it
+    same("picture of a folder", (done.stdout, done.returncode), (b"", 1))
     same("picture with an argument", run([picture, "report.txt"], good), (b"", b"usage: picture.py < REPORT > PICTURE\n", 2))
     with open("/dev/full", "wb") as full, tempfile.TemporaryFile() as report_file:
         report_file.write(good.encode())
         for fault, options in [
-            ("input: Is a directory", {"stdin": folder}),
             ("input: Bad file descriptor", {"preexec_fn": lambda: os.close(0)}),
             ("output: No space left on device", {"stdout": full}),
             ("output: Bad file descriptor", {"preexec_fn": lambda: os.close(1)}),
