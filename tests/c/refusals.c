@@ -37,6 +37,31 @@ struct fault {
 #define FAULT(number, type, field, wrong) \
     {number, #field " = " #wrong, offsetof(struct arguments, field), sizeof(type), &(type){wrong}}
 
+/* The faults that several calls share. */
+#define KIND_FAULTS \
+    FAULT(101, uint32_t, kind, 5), \
+    FAULT(101, uint32_t, kind, UINT32_MAX)
+#define RECORD_WORDS_FAULTS \
+    FAULT(102, uint64_t, record_words, 0), \
+    FAULT(102, uint64_t, record_words, 121), \
+    FAULT(102, uint64_t, record_words, 123)
+#define VALUE_COUNT_FAULTS \
+    FAULT(102, uint64_t, value_count, 0), \
+    FAULT(102, uint64_t, value_count, 39), \
+    FAULT(102, uint64_t, value_count, 41)
+#define SYSTEM_FAULTS \
+    FAULT(1, uint32_t, system, 0), \
+    FAULT(1, uint32_t, system, 11), \
+    FAULT(1, uint32_t, system, 13)
+#define LINE_COUNT_FAULTS \
+    FAULT(4, uint64_t, line_count, 0), \
+    FAULT(4, uint64_t, line_count, 511), \
+    FAULT(4, uint64_t, line_count, 513)
+#define LINES_FAULTS \
+    LINE_COUNT_FAULTS, \
+    FAULT(5, uint64_t, lines[0], 576460752303423489), \
+    FAULT(5, uint64_t, lines[510], UINT64_MAX)
+
 struct call {
     const char *name;
     uint32_t (*run)(struct arguments *);
@@ -56,9 +81,7 @@ static const struct fault spectrum_faults[] = {
     FAULT(2, uint64_t, recording_length, 2047),
     FAULT(2, uint64_t, start, 1),
     FAULT(2, uint64_t, start, UINT64_MAX),
-    FAULT(4, uint64_t, line_count, 0),
-    FAULT(4, uint64_t, line_count, 511),
-    FAULT(4, uint64_t, line_count, 513),
+    LINE_COUNT_FAULTS,
     FAULT(3, int32_t, recording[0], 131072),
     FAULT(3, int32_t, recording[1023], -131072),
     FAULT(3, int32_t, recording[2047], INT32_MIN),
@@ -70,18 +93,11 @@ static uint32_t group_value(struct arguments *a)
 }
 
 static const struct fault group_value_faults[] = {
-    FAULT(101, uint32_t, kind, 5),
-    FAULT(101, uint32_t, kind, UINT32_MAX),
-    FAULT(1, uint32_t, system, 0),
-    FAULT(1, uint32_t, system, 11),
-    FAULT(1, uint32_t, system, 13),
+    KIND_FAULTS,
+    SYSTEM_FAULTS,
     FAULT(6, uint32_t, order, 0),
     FAULT(6, uint32_t, order, 41),
-    FAULT(4, uint64_t, line_count, 0),
-    FAULT(4, uint64_t, line_count, 511),
-    FAULT(4, uint64_t, line_count, 513),
-    FAULT(5, uint64_t, lines[0], 576460752303423489),
-    FAULT(5, uint64_t, lines[510], UINT64_MAX),
+    LINES_FAULTS,
 };
 
 static uint32_t row(struct arguments *a)
@@ -90,18 +106,10 @@ static uint32_t row(struct arguments *a)
 }
 
 static const struct fault row_faults[] = {
-    FAULT(101, uint32_t, kind, 5),
-    FAULT(101, uint32_t, kind, UINT32_MAX),
-    FAULT(102, uint64_t, value_count, 0),
-    FAULT(102, uint64_t, value_count, 39),
-    FAULT(102, uint64_t, value_count, 41),
-    FAULT(1, uint32_t, system, 0),
-    FAULT(1, uint32_t, system, 11),
-    FAULT(4, uint64_t, line_count, 0),
-    FAULT(4, uint64_t, line_count, 511),
-    FAULT(4, uint64_t, line_count, 513),
-    FAULT(5, uint64_t, lines[0], 576460752303423489),
-    FAULT(5, uint64_t, lines[510], UINT64_MAX),
+    KIND_FAULTS,
+    VALUE_COUNT_FAULTS,
+    SYSTEM_FAULTS,
+    LINES_FAULTS,
 };
 
 static uint32_t distortion(struct arguments *a)
@@ -110,9 +118,7 @@ static uint32_t distortion(struct arguments *a)
 }
 
 static const struct fault distortion_faults[] = {
-    FAULT(102, uint64_t, value_count, 0),
-    FAULT(102, uint64_t, value_count, 39),
-    FAULT(102, uint64_t, value_count, 41),
+    VALUE_COUNT_FAULTS,
     FAULT(12, uint32_t, values[0], 0),
 };
 
@@ -122,11 +128,8 @@ static uint32_t fresh_record(struct arguments *a)
 }
 
 static const struct fault fresh_record_faults[] = {
-    FAULT(102, uint64_t, record_words, 0),
-    FAULT(102, uint64_t, record_words, 121),
-    FAULT(102, uint64_t, record_words, 123),
-    FAULT(1, uint32_t, system, 0),
-    FAULT(1, uint32_t, system, 11),
+    RECORD_WORDS_FAULTS,
+    SYSTEM_FAULTS,
 };
 
 static uint32_t add_row(struct arguments *a)
@@ -135,20 +138,15 @@ static uint32_t add_row(struct arguments *a)
 }
 
 static const struct fault add_row_faults[] = {
-    FAULT(102, uint64_t, record_words, 0),
-    FAULT(102, uint64_t, record_words, 121),
-    FAULT(102, uint64_t, record_words, 123),
-    FAULT(102, uint64_t, value_count, 0),
-    FAULT(102, uint64_t, value_count, 39),
-    FAULT(102, uint64_t, value_count, 41),
+    RECORD_WORDS_FAULTS,
+    VALUE_COUNT_FAULTS,
     FAULT(7, uint64_t, record[0], 11),
     FAULT(7, uint64_t, record[1], 0),
     FAULT(7, uint64_t, record[1], 45001),
     FAULT(7, uint64_t, record[41], 4294967296),
     FAULT(7, uint64_t, record[42], UINT64_MAX),
     FAULT(7, uint64_t, record[121], 4294967296),
-    FAULT(1, uint32_t, system, 0),
-    FAULT(1, uint32_t, system, 11),
+    SYSTEM_FAULTS,
     FAULT(8, uint32_t, system, 12),
     FAULT(9, uint64_t, record[1], 45000),
 };
@@ -159,9 +157,7 @@ static uint32_t verdict(struct arguments *a)
 }
 
 static const struct fault verdict_faults[] = {
-    FAULT(102, uint64_t, record_words, 0),
-    FAULT(102, uint64_t, record_words, 121),
-    FAULT(102, uint64_t, record_words, 123),
+    RECORD_WORDS_FAULTS,
     FAULT(7, uint64_t, record[0], 11),
     FAULT(7, uint64_t, record[1], 45001),
     FAULT(7, uint64_t, record[2], 4294967296),

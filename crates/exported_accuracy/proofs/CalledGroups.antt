@@ -1,52 +1,29 @@
 -- kifsang_spectrum and then a call for the lines that it left: what neither refused tells of the window and of the values.
-use mathlib.Core.Path.{_≡_, refl, _∙_}
-use mathlib.Core.Bool.{Bool, true, false, cond, not}
+use mathlib.Core.Path.{_≡_}
 use mathlib.Core.List.{List, [], _∷_}
-use Prim.Native.Nat.{ℕ, _-_, _≤_}
+use Prim.Native.Nat.{ℕ}
 use native.Mathlib.Omega.{arith}
-use lib.Dec.{eqb, ltb}
 use lib.IntN.{ℤ}
-use lib.ListN.{length, length-take, length-drop}
-use borrow.Author.Tests.{eqb-true, eqb-false, ltb-false}
-use Rattle.algebra.specs.Lists.{anyOf}
-use Rattle.refusals.specs.Numbers.{noRefusal, shortWindow, wrongLineCount, sampleOutOfRange}
-use Rattle.refusals.specs.Answers.{firstFault, unlessRefused}
-use Rattle.refusals.proofs.Answers.{no-fault}
-use Rattle.spectrum.specs.Line.{windowLength, lineCount, windowAt, linesOf}
-use Rattle.spectrum.specs.Spectrum.{outOfRange, spectrumRefusal, spectrumBuffer}
-use Rattle.groups.specs.Group.{groupRefusal, groupValue, groupValues}
+use Rattle.refusals.specs.Numbers.{noRefusal}
+use Rattle.refusals.specs.Answers.{firstFault}
+use Rattle.spectrum.specs.Line.{windowAt, linesOf}
+use Rattle.spectrum.specs.Spectrum.{spectrumRefusal, spectrumBuffer}
+use Rattle.spectrum.proofs.Accepted as Accepted
+use Rattle.groups.specs.Group.{groupRefusal}
 use Rattle.groups.proofs.GroupSum.{accepted, accepted-value}
 use Rattle.groups.proofs.Weights.{order-bounds}
 use Rattle.accuracy.specs.Distance.{InRange, GroupsNear}
 use Rattle.accuracy.proofs.GroupDistance.{groups-near}
 use Rattle.kifsang.specs.Kinds.{kindWith, kindCheck}
 use Rattle.kifsang.specs.GroupCalls.{groupCallRefusal, groupCallValue, rowCallRefusal, rowCallValues}
+use Rattle.kifsang.proofs.Handed.{own-first-none}
 use Rattle.exported_accuracy.specs.Claim.{CalledGroup, CalledRow}
 
--- neither the interface's own checks nor the row of document 01's table refuse
-pub own-first-none : (own rest : ℕ) → unlessRefused own rest own ≡ noRefusal → rest ≡ noRefusal
-own-first-none own rest = go (eqb own noRefusal) refl
-  where
-    go : (none : Bool) → eqb own noRefusal ≡ none → cond none rest own ≡ noRefusal → rest ≡ noRefusal
-    go true e passed = passed
-    go false e passed = absurd (eqb-false own noRefusal e passed)
-
 module _ (recording : List ℤ) (start : ℕ) (buffer : List ℕ) (taken : spectrumRefusal recording start buffer ≡ noRefusal) where
-  -- the window has all its samples, and they are in range
   window-in-range : InRange (windowAt recording start)
-  unfolding spectrumRefusal windowAt
   window-in-range =
-      let wrong-count = not (eqb (length buffer) lineCount) in
-      let outside = anyOf outOfRange (windowAt recording start) in
-      let after-count = cond outside sampleOutOfRange noRefusal in
-      let after-short = cond wrong-count wrongLineCount after-count in
-      let not-short = no-fault (ltb (length recording - start) windowLength) shortWindow after-short (omega arith) taken in
-      let not-wrong-count = no-fault wrong-count wrongLineCount after-count (omega arith) (not-short .1) in
-      let enough : windowLength ≤ length recording - start = ltb-false _ _ (not-short .0) in
-      record {
-        whole-window = simp (length-take, length-drop) (omega arith);
-        samples = no-fault outside sampleOutOfRange noRefusal (omega arith) (not-wrong-count .1) .0;
-      }
+      let call = Accepted.accepted recording start buffer taken in
+      record { whole-window = call .whole-window; samples = call .in-range }
 
   lines-left : spectrumBuffer recording start buffer ≡ linesOf (windowAt recording start)
   unfolding spectrumBuffer

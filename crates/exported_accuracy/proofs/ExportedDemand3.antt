@@ -1,12 +1,11 @@
 -- Demand 3 for the exported calls: the words follow the list of document 01, and demand 3 holds of the record after it.
-use mathlib.Core.Path.{_≡_, refl, ap, _∙_, subst}
+use mathlib.Core.Path.{_≡_, ap, _∙_, subst}
 use mathlib.Core.List.{List, [], _∷_, _++_, append-assoc}
-use mathlib.Core.Option.{none, some}
+use mathlib.Core.Option.{none}
 use Prim.Native.Nat.{ℕ, _+_, _-_, _<_, _≤_}
 use native.Mathlib.Omega.{arith}
 use lib.ListN.{length, getD, List·getD-append}
 use lib.Seq.{getD-append-add}
-use borrow.Author.Tests.{eq-eqb}
 use Rattle.refusals.specs.Numbers.{noRefusal}
 use Rattle.refusals.specs.Answers.{firstFault}
 use Rattle.groups.specs.declared.Kind.{Kind}
@@ -15,18 +14,19 @@ use Rattle.observation.specs.Book.{Book}
 use Rattle.observation.specs.Smoothing.{reported}
 use Rattle.observation.specs.declared.Observation.{Observation}
 use Rattle.observation.specs.Calls.{bookAt}
-use Rattle.verdict.specs.Call.{verdictOf, verdictRefusal}
+use Rattle.verdict.specs.Call.{verdictRefusal}
 use Rattle.accuracy.specs.Claim.{WorkedList, ListHolds, after, reportedBook}
 use Rattle.accuracy.proofs.Demand3.{demand3}
 use Rattle.kifsang.specs.Refusals.{wordCountCheck}
-use Rattle.kifsang.specs.Words.{smoothedPlace, recordWords, recordOf, wordsOf}
-use Rattle.kifsang.specs.RecordCalls.{verdictNumber, verdictCallRefusal, verdictCallNumber}
+use Rattle.kifsang.specs.Words.{recordWords, recordOf, wordsOf}
+use Rattle.kifsang.specs.RecordCalls.{verdictCallRefusal, verdictCallNumber}
+use Rattle.kifsang.proofs.Handed.{own-first-none}
 use Rattle.kifsang.proofs.RecordWords.{record-of-words}
 use Rattle.kifsang.proofs.VerdictCases.{given-case}
-use Rattle.exported_accuracy.specs.Calls.{Call, Begun, wordsAfter, listAfter}
+use Rattle.exported_accuracy.specs.Calls.{Begun, wordsAfter}
 use Rattle.exported_accuracy.specs.Claim.{smoothedWord, CalledVerdict, WordsHold, ExportedDemand3Holds}
 use Rattle.exported_accuracy.proofs.WordsFollow.{Follows, FollowsBegun, Whole, list-whole, calls-follow}
-use Rattle.exported_accuracy.proofs.CalledGroups.{own-first-none, called-group, called-row}
+use Rattle.exported_accuracy.proofs.CalledGroups.{called-group, called-row}
 
 -- the word of an order's smoothed value
 smoothed-word :

@@ -8,7 +8,8 @@ use native.Mathlib.Decide.{ℕ-discrete}
 use native.Mathlib.Omega.{arith}
 use borrow.Author.Tests.{eq-eqb, ne-eqb, ltb-true, ltb-false}
 use lib.Dec.{eqb, ltb}
-use lib.ListN.{length}
+use lib.ListN.{length, take}
+use Rattle.io.specs.Counts.{Counts}
 use Rattle.refusals.specs.Numbers.{noRefusal}
 use Rattle.observation.specs.Soundness.{mostWindows}
 use Rattle.recordings.specs.declared.Reading.{Reading}
@@ -30,8 +31,25 @@ pub first-fails : (a b : Bool) → (a || b) ≡ false → a ≡ false
 first-fails true b e = absurd (true≢false e)
 first-fails false b e = refl
 
--- ---- all the bytes that were asked for
+-- ---- the bytes of one read
 
+-- the front of a buffer is what was read
+pub bytes-read :
+    (most : ℕ) (readAs : List ℕ → Reading) (buffer : List ℕ) (count : ℕ) (input : Input) →
+    length buffer ≡ most →
+    Counts count buffer →
+    input .short ≡ ltb count most →
+    input .reading ≡ readAs (take count buffer) →
+    BytesRead most readAs input
+bytes-read most readAs buffer count input room counts short reading =
+    record {
+      bytes = take count buffer;
+      fits = omega (arith, counts);
+      short-is = short ∙ ap (λ n. ltb n most) (counts .1);
+      reading-is = reading;
+    }
+
+-- all the bytes that were asked for
 bytes-whole :
     (most : ℕ) (readAs : List ℕ → Reading) (input : Input) (read : BytesRead most readAs input) →
     input .short ≡ false →

@@ -4,6 +4,7 @@ use mathlib.Core.Bool.{Bool, true, false, cond}
 use mathlib.Core.List.{List}
 use Prim.Native.Nat.{ℕ}
 use lib.Dec.{eqb}
+use borrow.Author.Tests.{eqb-false}
 use Rattle.refusals.specs.Numbers.{noRefusal}
 use Rattle.refusals.specs.Answers.{unlessRefused, answer}
 use Rattle.refusals.specs.declared.Answer.{Answer}
@@ -18,6 +19,14 @@ received-eq {A} {B} f refusal worked other old = go (eqb refusal noRefusal)
     go : (worked-out : Bool) → cond worked-out (f (cond worked-out worked other)) old ≡ cond worked-out (f worked) old
     go true = refl
     go false = refl
+
+-- where neither the interface's own checks nor the row of document 01's table refuse, the row does not
+pub own-first-none : (own row : ℕ) → unlessRefused own row own ≡ noRefusal → row ≡ noRefusal
+own-first-none own row = go (eqb own noRefusal) refl
+  where
+    go : (none : Bool) → eqb own noRefusal ≡ none → cond none row own ≡ noRefusal → row ≡ noRefusal
+    go true e passed = passed
+    go false e passed = absurd (eqb-false own noRefusal e passed)
 
 -- an answer: the refusal, and the value unless it is refused
 pub handed-answer : (refusal worked old received exit : ℕ) (a : Answer) → a ≡ answer refusal worked → (received ≡ a .refusal) × (exit ≡ unlessRefused (a .refusal) (a .value) old) → (received ≡ refusal) × (exit ≡ unlessRefused refusal worked old)

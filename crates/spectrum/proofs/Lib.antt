@@ -5,3 +5,4 @@ pub mod Lines
 pub mod Distance
 pub mod Worked
 pub mod Pulse
+pub mod Accepted
