@@ -7,8 +7,8 @@ use Prim.Native.Nat.{ℕ, _+_}
 use native.Mathlib.Omega.{arith}
 use borrow.Author.Tests.{eqb-true, not-false}
 use Rattle.refusals.proofs.Answers.{no-fault}
-use Rattle.groups.specs.Group.{isSystem}
-use Rattle.observation.specs.declared.Row.{Row}
+use Rattle.rows.specs.Systems.{isSystem}
+use Rattle.rows.specs.declared.Row.{Row}
 use Rattle.observation.specs.Calls.{rowChecks}
 use Rattle.observation.specs.BookCalls.{accepts, EachAccepted}
 

@@ -8,9 +8,10 @@ use lib.IntN.{ℤ}
 use lib.ListN.{getD}
 use Rattle.algebra.specs.Fraction.{whole, Side, lower, upper, RootBound}
 use Rattle.groups.specs.declared.Kind.{Kind}
-use Rattle.groups.specs.Group.{orderCount, isSystem}
+use Rattle.rows.specs.Systems.{isSystem}
+use Rattle.rows.specs.Orders.{orderCount}
 use Rattle.groups.specs.Exact.{exactGroup}
-use Rattle.observation.specs.declared.Row.{Row}
+use Rattle.rows.specs.declared.Row.{Row}
 use Rattle.observation.specs.BookCalls.{Fed}
 use Rattle.accuracy.specs.Distance.{groupMargin, valueOf, GroupNear, GroupsNear}
 use Rattle.accuracy.specs.ExactBook.{exact}

@@ -6,8 +6,9 @@ use Prim.Native.Nat.{ℕ, _-_, _<_, _≤_}
 use native.Mathlib.Omega.{arith}
 use Rattle.algebra.specs.Fraction.{whole, _+ᶠ_}
 use Rattle.groups.specs.declared.Kind.{Kind}
-use Rattle.groups.specs.Group.{orderCount, isSystem}
-use Rattle.observation.specs.declared.Row.{Row}
+use Rattle.rows.specs.Systems.{isSystem}
+use Rattle.rows.specs.Orders.{orderCount}
+use Rattle.rows.specs.declared.Row.{Row}
 use Rattle.observation.specs.Calls.{bookAt}
 use Rattle.observation.proofs.RecordBooks.{fresh-record-after-system, fresh-record-after-books}
 use Rattle.verdict.proofs.Verdicts.{accepted}

@@ -29,7 +29,9 @@ use Rattle.spectrum.proofs.Lines.{length-linesOf, getD-linesOf, no-line-too-lar
 use Rattle.groups.specs.declared.Kind.{Kind}
 use Rattle.groups.specs.Weights.{Weighted, weightsOf, weightedSum}
 use Rattle.groups.specs.Exact.{exactLine, exactGroup, exactGroupNumerator}
-use Rattle.groups.specs.Group.{isSystem, isOrder, orderCount, lineAt, groupValue, groupRefusal, groupAnswer}
+use Rattle.groups.specs.Group.{lineAt, groupValue, groupRefusal, groupAnswer}
+use Rattle.rows.specs.Systems.{isSystem}
+use Rattle.rows.specs.Orders.{orderCount, isOrder}
 use Rattle.groups.proofs.GroupSum.{group-sum-lt}
 use Rattle.groups.proofs.Weights.{totalTwiceWeight, largestTotal, weights-total-le, weights-line-lt, weightedSum-eq}
 use Rattle.accuracy.specs.Distance.{InRange, GroupsNear, groupMargin}

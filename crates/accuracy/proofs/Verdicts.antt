@@ -10,7 +10,7 @@ use Rattle.algebra.specs.Fraction.{whole, _≤ᶠ_, _<ᶠ_, Side, Near}
 use Rattle.algebra.proofs.Fraction.{near-weaken, near-divide, near-le-bound, near-gt-bound}
 use Rattle.refusals.specs.Numbers.{noRefusal}
 use Rattle.groups.specs.declared.Kind.{Kind}
-use Rattle.observation.specs.declared.Row.{Row}
+use Rattle.rows.specs.declared.Row.{Row}
 use Rattle.observation.specs.Book.{Book}
 use Rattle.observation.specs.Smoothing.{reported}
 use Rattle.observation.specs.Calls.{bookAt}

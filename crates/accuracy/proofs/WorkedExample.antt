@@ -18,8 +18,10 @@ use Rattle.spectrum.proofs.Pulse.{pulse, pulse-in-range, pulse-line}
 use Rattle.groups.specs.declared.Kind.{Kind}
 use Rattle.groups.specs.declared.Kind.the-variants.{HarmonicGroup}
 use Rattle.groups.specs.Weights.{wholeLines, weightsOf, weightedSum}
-use Rattle.groups.specs.Group.{orderCount, isSystem, isOrder, groupValue, groupRefusal, groupAnswer, groupValues}
-use Rattle.observation.specs.declared.Row.{Row}
+use Rattle.groups.specs.Group.{groupValue, groupRefusal, groupAnswer, groupValues}
+use Rattle.rows.specs.Systems.{isSystem}
+use Rattle.rows.specs.Orders.{orderCount, isOrder}
+use Rattle.rows.specs.declared.Row.{Row}
 use Rattle.observation.specs.Book.{Book, emptyBook, smoothedNext, bookStep}
 use Rattle.observation.specs.Smoothing.{smoothedValue, reported}
 use Rattle.observation.specs.Calls.{rowChecks, bookAt}

@@ -11,11 +11,14 @@ use Rattle.algebra.specs.Fraction.{Side, lower, upper, SquareWithin}
 use Rattle.algebra.proofs.Fraction.{near-root}
 use Rattle.algebra.proofs.Lists.{getD-tabulate}
 use Rattle.groups.specs.declared.Kind.{Kind}
-use Rattle.groups.specs.Group.{orderCount, isSystem, groupValues}
+use Rattle.groups.specs.Group.{groupValues}
+use Rattle.rows.specs.Systems.{isSystem}
+use Rattle.rows.specs.Orders.{orderCount}
 use Rattle.groups.specs.Exact.{exactGroup}
 use Rattle.groups.proofs.GroupSum.{group-values-le}
-use Rattle.observation.specs.declared.Row.{Row}
-use Rattle.observation.specs.BookCalls.{Fed, ValuesFit, AcceptedFit}
+use Rattle.rows.specs.declared.Row.{Row}
+use Rattle.observation.specs.BookCalls.{Fed, AcceptedFit}
+use Rattle.rows.specs.Rows.{ValuesFit}
 use Rattle.accuracy.specs.Distance.{groupMargin, valueOf, GroupNear, GroupsNear}
 use Rattle.accuracy.specs.ExactBook.{exact}
 use Rattle.accuracy.specs.Claim.{Worked, WorkedList, Feeds, ExactBook, reportedBook, state}

@@ -9,9 +9,11 @@ use Rattle.algebra.specs.Fraction.{whole, Side, lower, upper, RootBound, _+ᶠ_
 use Rattle.refusals.specs.Numbers.{noRefusal}
 use Rattle.groups.specs.declared.Kind.{Kind}
 use Rattle.spectrum.specs.Line.{linesOf}
-use Rattle.groups.specs.Group.{orderCount, isSystem, groupValues}
+use Rattle.groups.specs.Group.{groupValues}
+use Rattle.rows.specs.Systems.{isSystem}
+use Rattle.rows.specs.Orders.{orderCount}
 use Rattle.groups.specs.Exact.{exactGroup}
-use Rattle.observation.specs.declared.Row.{Row}
+use Rattle.rows.specs.declared.Row.{Row}
 use Rattle.observation.specs.declared.Observation.{Observation}
 use Rattle.observation.specs.Book.{Book, emptyBook}
 use Rattle.observation.specs.Smoothing.{reported}

@@ -11,7 +11,9 @@ use Rattle.refusals.specs.Numbers.{noRefusal}
 use Rattle.spectrum.specs.Line.{windowLength, linesOf}
 use Rattle.spectrum.specs.Spectrum.{outOfRange}
 use Rattle.groups.specs.declared.Kind.{Kind}
-use Rattle.groups.specs.Group.{orderCount, isSystem, groupAnswer}
+use Rattle.groups.specs.Group.{groupAnswer}
+use Rattle.rows.specs.Systems.{isSystem}
+use Rattle.rows.specs.Orders.{orderCount}
 use Rattle.groups.specs.Exact.{exactGroup}
 
 -- the units that a group value may be off

@@ -7,7 +7,7 @@ use native.Mathlib.Omega.{arith}
 use borrow.Author.Tests.{le-leb}
 use lib.IntN.{pos}
 use lib.ListN.{length, getD, length-append}
-use Rattle.groups.specs.Group.{orderCount}
+use Rattle.rows.specs.Orders.{orderCount}
 use Rattle.columns.specs.Text.{bytesOf, rightJustified}
 use Rattle.columns.specs.Column.{numberText, fitsColumn, columnText}
 use Rattle.columns.specs.Listing.{orderWidth, valueWidth, lineLength, header, orderLine, leftOut, orderText, ordersText, listingText}

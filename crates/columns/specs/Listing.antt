@@ -5,7 +5,7 @@ use Prim.Native.Nat.{ℕ, zero, suc, _+_, _*_}
 use lib.Dec.{eqb}
 use lib.IntN.{pos}
 use lib.ListN.{getD}
-use Rattle.groups.specs.Group.{orderCount}
+use Rattle.rows.specs.Orders.{orderCount}
 use Rattle.columns.specs.Text.{newline, bytesOf, rightJustified}
 use Rattle.columns.specs.Column.{columnText}
 

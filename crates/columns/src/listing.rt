@@ -3,7 +3,7 @@
 use crate::NEWLINE;
 use crate::writing::fill_column;
 use crate::writing::write_fault;
-use groups::ORDER_COUNT;
+use rows::ORDER_COUNT;
 use refusals::Answer;
 use refusals::NO_REFUSAL;
 use refusals::WRONG_BUFFER_LENGTH;
@@ -12,7 +12,7 @@ ghost use mathlib.Core.Path.{_≡_};
 ghost use Prim.Native.Nat.{_+_, _*_, _^_, _≤_, _<_};
 ghost use lib.IntN.{pos};
 ghost use lib.ListN.{length};
-ghost use Rattle.groups.specs.Group.{orderCount};
+ghost use Rattle.rows.specs.Orders.{orderCount};
 ghost use Rattle.columns.specs.Text.{Put};
 ghost use Rattle.columns.specs.Column.{fitsColumn, columnText};
 ghost use Rattle.columns.specs.Listing.{valueWidth, lineLength, orderLine, leftOut, orderText, ordersText, refusalWidth, refusalLineLength, refusalLine};

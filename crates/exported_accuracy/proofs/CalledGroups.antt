@@ -11,7 +11,7 @@ use Rattle.spectrum.specs.Spectrum.{spectrumRefusal, spectrumBuffer}
 use Rattle.spectrum.proofs.Accepted as Accepted
 use Rattle.groups.specs.Group.{groupRefusal}
 use Rattle.groups.proofs.GroupSum.{accepted, accepted-value}
-use Rattle.groups.proofs.Weights.{order-bounds}
+use Rattle.rows.proofs.Orders.{order-bounds}
 use Rattle.accuracy.specs.Distance.{InRange, GroupsNear}
 use Rattle.accuracy.proofs.GroupDistance.{groups-near}
 use Rattle.kifsang.specs.Kinds.{kindWith, kindCheck}

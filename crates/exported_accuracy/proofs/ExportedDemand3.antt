@@ -9,7 +9,7 @@ use lib.Seq.{getD-append-add}
 use Rattle.refusals.specs.Numbers.{noRefusal}
 use Rattle.refusals.specs.Answers.{firstFault}
 use Rattle.groups.specs.declared.Kind.{Kind}
-use Rattle.groups.specs.Group.{orderCount}
+use Rattle.rows.specs.Orders.{orderCount}
 use Rattle.observation.specs.Book.{Book}
 use Rattle.observation.specs.Smoothing.{reported}
 use Rattle.observation.specs.declared.Observation.{Observation}

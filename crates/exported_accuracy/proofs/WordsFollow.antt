@@ -14,8 +14,9 @@ use borrow.Author.Tests.{eq-eqb, ne-eqb, le-leb, lt-leb}
 use Rattle.algebra.proofs.Lists.{length-tabulate}
 use Rattle.refusals.specs.Numbers.{noRefusal, unknownSystem}
 use Rattle.refusals.specs.Answers.{firstFault, unlessRefused}
-use Rattle.groups.specs.Group.{orderCount, isSystem}
-use Rattle.observation.specs.declared.Row.{Row}
+use Rattle.rows.specs.Systems.{isSystem}
+use Rattle.rows.specs.Orders.{orderCount}
+use Rattle.rows.specs.declared.Row.{Row}
 use Rattle.observation.specs.declared.Observation.{Observation}
 use Rattle.observation.specs.Calls.{emptyRecord, freshRefusal, freshAnswer, withRow, addRowRefusal, addRowAnswer}
 use Rattle.observation.specs.CallList.{recordAfter}

@@ -8,7 +8,9 @@ use lib.ListN.{length, replicate}
 use Rattle.algebra.specs.Lists.{tabulate}
 use Rattle.spectrum.specs.Line.{linesOf}
 use Rattle.groups.specs.declared.Kind.{Kind}
-use Rattle.groups.specs.Group.{orderCount, isSystem, groupValues}
+use Rattle.groups.specs.Group.{groupValues}
+use Rattle.rows.specs.Systems.{isSystem}
+use Rattle.rows.specs.Orders.{orderCount}
 use Rattle.accuracy.specs.Distance.{InRange}
 use Rattle.accuracy.proofs.WorkedExample.{workedRow, refusedRow, workedRows, worked-rows}
 use Rattle.kifsang.specs.Words.{recordWords}

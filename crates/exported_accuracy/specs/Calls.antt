@@ -5,8 +5,9 @@ use mathlib.Core.Option.{Option, none, some}
 use Prim.Native.Nat.{ℕ}
 use lib.Dec.{eqb, leb}
 use lib.ListN.{length, take, drop}
-use Rattle.groups.specs.Group.{orderCount, isSystem}
-use Rattle.observation.specs.declared.Row.{Row}
+use Rattle.rows.specs.Systems.{isSystem}
+use Rattle.rows.specs.Orders.{orderCount}
+use Rattle.rows.specs.declared.Row.{Row}
 use Rattle.kifsang.specs.Words.{recordWords}
 use Rattle.kifsang.specs.RecordCalls.{lentRow, freshCallWords, addRowCallWords}
 

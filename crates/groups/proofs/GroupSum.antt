@@ -14,10 +14,13 @@ use Rattle.algebra.proofs.Lists.{anyOf-none, getD-tabulate-le, tabulate-same}
 use Rattle.integers.proofs.Root.{lt-rootLimit, root-of-largest, root-le-of-le}
 use Rattle.refusals.specs.Numbers.{noRefusal, unknownSystem, orderOutOfRange, wrongLineCount, lineTooLarge}
 use Rattle.refusals.proofs.Answers.{no-fault}
+use Rattle.rows.proofs.Orders.{order-of-place}
 use Rattle.spectrum.specs.Line.{lineCount}
 use Rattle.groups.specs.declared.Kind.{Kind}
 use Rattle.groups.specs.Weights.{Weighted, weightsOf, weightedSum}
-use Rattle.groups.specs.Group.{isSystem, isOrder, orderCount, largestLine, lineAt, groupRefusal, groupValue, groupAnswer, groupValues}
+use Rattle.groups.specs.Group.{largestLine, lineAt, groupRefusal, groupValue, groupAnswer, groupValues}
+use Rattle.rows.specs.Systems.{isSystem}
+use Rattle.rows.specs.Orders.{orderCount, isOrder}
 use Rattle.groups.proofs.Weights.{totalTwiceWeight, largestTotal, weightedSum-le-total, weights-total-le}
 
 -- where no line is above the largest that is taken, no line read is, also none past the end
@@ -86,10 +89,6 @@ pub group-values-le : (kind : Kind) (system : ℕ) (lines : List ℕ) (i : ℕ) 
 unfolding groupValues
 group-values-le kind system lines =
     getD-tabulate-le orderCount _ (2 ^ 32 - 1) (λ j inside. answered-value-le kind system (j + 1) lines)
-
-order-of-place : (i : ℕ) → i < orderCount → isOrder (i + 1) ≡ true
-unfolding isOrder
-order-of-place i inside = rw (lt-ltb 0 (i + 1) (omega arith), le-leb (i + 1) orderCount (omega arith))
 
 -- the refusal of an order 1..40 is that of order 1
 pub refusal-shared : (system i : ℕ) (lines : List ℕ) → i < orderCount → groupRefusal system (i + 1) lines ≡ groupRefusal system 1 lines

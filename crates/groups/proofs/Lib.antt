@@ -1,6 +1,5 @@
 -- The theorems of the groups and of group distortion.
 pub mod Weights
 pub mod GroupSum
-pub mod FirstValues
 pub mod RowDistortion
 pub mod Worked

@@ -15,7 +15,7 @@ use Rattle.integers.specs.Root.{rootOf, rootLimit}
 use Rattle.integers.specs.Wide.{wideLimbs, valueOf, limbsOf}
 use Rattle.integers.proofs.Root.{root-law}
 use Rattle.integers.proofs.Wide.{valueOf-limbsOf-lt}
-use Rattle.groups.specs.Group.{orderCount}
+use Rattle.rows.specs.Orders.{orderCount}
 use Rattle.groups.specs.Distortion.{sumOfSquares, squaredThousand, distortionDigits, distortionOf}
 
 -- the square at a place, and those after it

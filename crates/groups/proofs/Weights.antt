@@ -1,16 +1,14 @@
 -- Laws of the weighted sum over any list of weights: one line more, lines that are alike, at most the total weight times the largest line.
 -- Of the kinds' own lists: for systems 10 and 12 twice the weights add up to at most 24, and for orders 1..40 every line number is below 512.
 -- Assumes nothing.
-use mathlib.Core.Path.{_≡_, refl, sym, ap, _∙_}
-use mathlib.Core.Bool.{Bool, true, false, _||_, _&&_, true≢false}
-use mathlib.Core.Logic.{_⊎_, inl, inr, ⊎-elim}
+use mathlib.Core.Path.{_≡_, refl, ap}
+use mathlib.Core.Bool.{true}
+use mathlib.Core.Logic.{⊎-elim}
 use mathlib.Core.List.{List, [], _∷_, _++_}
 use Prim.Native.Nat.{ℕ, zero, suc, _+_, _-_, _*_, _/_, _≤_, _<_}
 use native.Mathlib.Numerals.{add-one}
 use native.Mathlib.Nat.{mul-le-mul, mul-le-mul-left, eq-or-lt-of-le, le-of-suc-le-suc}
 use native.Mathlib.Omega.{arith}
-use lib.Dec.{eqb, leb, ltb}
-use borrow.Author.Tests.{eqb-true, leb-true, ltb-true}
 use Rattle.algebra.specs.Lists.{tabulate}
 use Rattle.algebra.specs.Weighted.{sumOver, Everywhere}
 use Rattle.algebra.proofs.Weighted.{sumOver-append, sumOver-eq, sumOver-le-multiple, everywhere-append, everywhere-imp, everywhere-all}
@@ -18,7 +16,10 @@ use Rattle.spectrum.specs.Line.{lineCount}
 use Rattle.groups.specs.declared.Kind.{Kind}
 use Rattle.groups.specs.declared.Kind.the-variants.{Component, HarmonicGroup, HarmonicSubgroup, InterharmonicGroup, InterharmonicCentredSubgroup}
 use Rattle.groups.specs.Weights.{Weighted, wholeLine, halfLine, wholeLines, weightsOf, weightedSum}
-use Rattle.groups.specs.Group.{isSystem, isOrder, orderCount}
+use Rattle.rows.specs.Orders.{orderCount, isOrder}
+use Rattle.rows.specs.Systems.{isSystem}
+use Rattle.rows.proofs.Orders.{order-bounds}
+use Rattle.rows.proofs.Systems.{SystemBounds, system-bounds}
 
 -- a fact of the number of every line in a list of weights
 abbrev pub EveryLine : (ℕ → Type 0) → List Weighted → Type 0
@@ -81,36 +82,6 @@ unfolding sumOver wholeLines tabulate
 total-wholeLines first zero = refl
 total-wholeLines first (suc count) =
     rw (sumOver-append _ (wholeLines first count) (wholeLine (first + count) ∷ []), total-wholeLines first count) (omega arith)
-
--- a system is 10 or 12
-pub system-cases : (n : ℕ) → isSystem n ≡ true → (n ≡ 10) ⊎ (n ≡ 12)
-unfolding isSystem
-system-cases n e = go (eqb n 10) (eqb n 12) refl refl e
-  where
-    go : (a b : Bool) → eqb n 10 ≡ a → eqb n 12 ≡ b → (a || b) ≡ true → (n ≡ 10) ⊎ (n ≡ 12)
-    go true b p q r = inl (eqb-true n 10 p)
-    go false b p q r = inr (eqb-true n 12 (q ∙ r))
-
-pub order-bounds : (h : ℕ) → isOrder h ≡ true → (1 ≤ h) × (h ≤ orderCount)
-unfolding isOrder
-order-bounds h e = go (ltb 0 h) refl e
-  where
-    go : (a : Bool) → ltb 0 h ≡ a → (a && leb h orderCount) ≡ true → (1 ≤ h) × (h ≤ orderCount)
-    go true p r = (ltb-true 0 h p, leb-true h orderCount r)
-    go false p r = absurd (true≢false (sym r))
-
--- what the counts of lines in a system's groups rest on
-pub record SystemBounds (n : ℕ) : Type 0 where
-  pub least : 10 ≤ n
-  pub most : n ≤ 12
-  pub even : n / 2 + n / 2 ≡ n
-
-pub system-bounds : (n : ℕ) → isSystem n ≡ true → SystemBounds n
-system-bounds n e =
-    ⊎-elim
-    (λ (p : n ≡ 10). record { least = omega arith; most = omega arith; even = omega arith })
-    (λ (p : n ≡ 12). record { least = omega arith; most = omega arith; even = omega arith })
-    (system-cases n e)
 
 -- the line n×h, from which the lines of an order are counted
 pub record CentreBounds (n h : ℕ) : Type 0 where

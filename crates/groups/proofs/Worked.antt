@@ -12,8 +12,10 @@ use Rattle.groups.specs.declared.Kind.{Kind}
 use Rattle.groups.specs.declared.Kind.the-variants.{Component, HarmonicGroup, HarmonicSubgroup, InterharmonicGroup, InterharmonicCentredSubgroup}
 use Rattle.groups.specs.declared.OrderValues.{OrderValues}
 use Rattle.groups.specs.Weights.{wholeLines, weightsOf, weightedSum}
-use Rattle.groups.specs.Group.{isSystem, isOrder, groupValue, groupRefusal, groupAnswer, groupValues, groupValuesAnswer}
-use Rattle.groups.specs.FirstValues.{firstValues}
+use Rattle.groups.specs.Group.{groupValue, groupRefusal, groupAnswer, groupValues, groupValuesAnswer}
+use Rattle.rows.specs.Systems.{isSystem}
+use Rattle.rows.specs.Orders.{isOrder}
+use Rattle.rows.specs.Rows.{firstValues}
 use Rattle.groups.specs.Distortion.{sumOfSquares, distortionOf, distortionAnswer}
 
 -- ---- the answers for components

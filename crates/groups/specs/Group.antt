@@ -1,33 +1,24 @@
 -- The group value and what the call answers (document 01, "Groups" and the refusal table's row "group value").
-use mathlib.Core.Bool.{Bool, not, _&&_, _||_}
+use mathlib.Core.Bool.{not}
 use mathlib.Core.List.{List, [], _∷_}
 use Prim.Native.Nat.{ℕ, _+_, _^_}
-use lib.Dec.{eqb, leb, ltb}
+use lib.Dec.{eqb, ltb}
 use lib.ListN.{length, getD}
 use Rattle.algebra.specs.Lists.{tabulate, anyOf}
 use Rattle.integers.specs.Root.{rootOf}
 use Rattle.refusals.specs.Numbers.{unknownSystem, orderOutOfRange, wrongLineCount, lineTooLarge}
 use Rattle.refusals.specs.Answers.{firstFault, answer}
 use Rattle.refusals.specs.declared.Answer.{Answer}
+use Rattle.rows.specs.Orders.{orderCount, isOrder}
+use Rattle.rows.specs.Systems.{isSystem}
 use Rattle.spectrum.specs.Line.{lineCount}
 use Rattle.groups.specs.declared.Kind.{Kind}
 use Rattle.groups.specs.declared.OrderValues.{OrderValues}
 use Rattle.groups.specs.Weights.{weightsOf, weightedSum}
 
--- the orders of a group: 1..40
-abbrev pub orderCount : ℕ
-orderCount = 40
-
 -- the largest line that is taken
 abbrev pub largestLine : ℕ
 largestLine = 2 ^ 59
-
--- the system: the cycles in a window, 10 at 50 Hz and 12 at 60 Hz
-unfoldable pub isSystem : ℕ → Bool
-isSystem n = eqb n 10 || eqb n 12
-
-unfoldable pub isOrder : ℕ → Bool
-isOrder h = ltb 0 h && leb h orderCount
 
 -- the line with a number, 0 past the end
 abbrev pub lineAt : List ℕ → ℕ → ℕ

@@ -2,5 +2,4 @@
 pub mod Weights
 pub mod Exact
 pub mod Group
-pub mod FirstValues
 pub mod Distortion

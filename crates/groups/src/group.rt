@@ -1,8 +1,7 @@
 // The group value of a kind, a system and an order over the 512 lines of a window, and the values of all orders.
 use crate::Kind;
-use crate::ORDER_COUNT;
 use crate::OrderValues;
-use integers::lists::any_above;
+use lists::any_above;
 use integers::square_root::root;
 use refusals::Answer;
 use refusals::LINE_TOO_LARGE;
@@ -10,6 +9,9 @@ use refusals::NO_REFUSAL;
 use refusals::ORDER_OUT_OF_RANGE;
 use refusals::UNKNOWN_SYSTEM;
 use refusals::WRONG_LINE_COUNT;
+use rows::ORDER_COUNT;
+use rows::is_order;
+use rows::is_system;
 use spectrum::LINE_COUNT;
 ghost use mathlib.Core.Path.{_≡_};
 ghost use mathlib.Core.List.{[], _∷_, _++_};
@@ -17,7 +19,7 @@ ghost use Prim.Native.Nat.{_+_, _^_, _≤_, _<_};
 ghost use lib.ListN.{length};
 ghost use Rattle.refusals.specs.Numbers.{noRefusal};
 ghost use Rattle.groups.specs.Weights.{wholeLines, halfLine, weightsOf, weightedSum};
-ghost use Rattle.groups.specs.Group.{isSystem, isOrder, lineAt, groupRefusal, groupValue, groupAnswer, groupValues, groupValuesAnswer};
+ghost use Rattle.groups.specs.Group.{lineAt, groupRefusal, groupValue, groupAnswer, groupValues, groupValuesAnswer};
 
 // The largest line that is taken.
 const LARGEST_LINE: u64 = 1 << 59;
@@ -26,20 +28,6 @@ const LARGEST_LINE: u64 = 1 << 59;
 const TWICE_WHOLE: u64 = 2;
 // Twice the weight of a line at the edge of a harmonic group.
 const TWICE_HALF: u64 = 1;
-
-// The system is 10 or 12 cycles in a window.
-pub fn is_system(system: u32) -> bool
-    ensures { λ r. ⌜ r ≡ isSystem system ⌝ }
-{
-    system == 10 || system == 12
-}
-
-// The order is one of a group's.
-fn is_order(order: u32) -> bool
-    ensures { λ r. ⌜ r ≡ isOrder order ⌝ }
-{
-    0 < order && order as usize <= ORDER_COUNT
-}
 
 // The refusal table's row "group value": the number of the first fault that the tests find.
 fn group_refusal(system: u32, order: u32, lines: &[u64]) -> u32

@@ -2,16 +2,11 @@
 
 mod group;
 mod row_distortion;
-mod row_words;
 
 pub use group::group_value;
 pub use group::group_values;
-pub use group::is_system;
 pub use row_distortion::distortion;
-pub use row_words::first_values;
-
-// The orders of a group are 1..ORDER_COUNT.
-pub const ORDER_COUNT: usize = 40;
+use rows::ORDER_COUNT;
 
 // The five groupings of document 01.
 pub enum Kind {

@@ -1,5 +1,4 @@
-// Whole numbers: the integer square root, numbers wider than 64 bits, and lent lists.
+// Whole numbers: the integer square root, and numbers wider than 64 bits.
 pub mod limbs;
-pub mod lists;
 pub mod square_root;
 pub mod wide_numbers;

@@ -6,7 +6,7 @@ use lib.ListN.{length, drop}
 use borrow.Author.Tests.{eq-eqb}
 use Rattle.refusals.specs.Answers.{unlessRefused, answer}
 use Rattle.refusals.specs.declared.Answer.{Answer}
-use Rattle.groups.specs.Group.{orderCount}
+use Rattle.rows.specs.Orders.{orderCount}
 use Rattle.columns.specs.Listing.{listingText}
 use Rattle.columns.specs.Calls.{listingFault, listingWritten}
 use Rattle.kifsang.specs.ListingCall.{listingCallRefusal, listingCallBytes, listingCallCount}

@@ -9,10 +9,11 @@ use lib.ListN.{length, getD, take, drop, set, length-append}
 use lib.Seq.{paste, take-all, take-add, take-at, drop-at, take-paste, length-paste}
 use lib.Dec.{leb}
 use borrow.Author.Tests.{le-leb, leb-true}
-use Rattle.groups.specs.Group.{orderCount}
-use Rattle.groups.proofs.Weights.{system-bounds}
+use Rattle.rows.specs.Orders.{orderCount}
+use Rattle.rows.proofs.Systems.{system-bounds}
 use Rattle.observation.specs.declared.Observation.{Observation}
-use Rattle.observation.specs.Soundness.{largestValue, isSound}
+use Rattle.observation.specs.Soundness.{isSound}
+use Rattle.rows.specs.Rows.{largestValue}
 use Rattle.observation.proofs.SoundRecord.{sound-parts}
 use Rattle.kifsang.specs.Words.{systemPlace, windowsPlace, smoothedPlace, sumPlace, peakPlace, recordWords, recordOf, wordsOf, countsFit}
 

@@ -2,7 +2,8 @@
 use mathlib.Core.List.{List, [], _∷_}
 use Prim.Native.Nat.{ℕ}
 use Rattle.refusals.specs.Answers.{unlessRefused}
-use Rattle.groups.specs.Group.{orderCount, groupValue, groupRefusal, groupValues}
+use Rattle.groups.specs.Group.{groupValue, groupRefusal, groupValues}
+use Rattle.rows.specs.Orders.{orderCount}
 use Rattle.groups.specs.Distortion.{distortionOf, distortionAnswer}
 use Rattle.kifsang.specs.Refusals.{ownFirst, wordCountCheck}
 use Rattle.kifsang.specs.Kinds.{kindWith, kindCheck}

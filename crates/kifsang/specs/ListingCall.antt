@@ -3,7 +3,7 @@ use mathlib.Core.List.{List, [], _∷_}
 use Prim.Native.Nat.{ℕ}
 use lib.ListN.{length}
 use Rattle.refusals.specs.Answers.{unlessRefused}
-use Rattle.groups.specs.Group.{orderCount}
+use Rattle.rows.specs.Orders.{orderCount}
 use Rattle.columns.specs.Listing.{listingText}
 use Rattle.columns.specs.Calls.{listingFault, listingWritten}
 use Rattle.kifsang.specs.Refusals.{ownFirst, wordCountCheck}

@@ -2,8 +2,8 @@
 use mathlib.Core.List.{List, [], _∷_}
 use Prim.Native.Nat.{ℕ}
 use Rattle.refusals.specs.Answers.{unlessRefused}
-use Rattle.groups.specs.Group.{orderCount}
-use Rattle.observation.specs.declared.Row.{Row}
+use Rattle.rows.specs.Orders.{orderCount}
+use Rattle.rows.specs.declared.Row.{Row}
 use Rattle.observation.specs.Calls.{emptyRecord, freshRefusal, withRow, addRowRefusal}
 use Rattle.verdict.specs.declared.Verdict.{Verdict}
 use Rattle.verdict.specs.declared.Verdict.the-variants.{Within, Close, Over}

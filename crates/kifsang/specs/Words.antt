@@ -4,9 +4,9 @@ use mathlib.Core.List.{List, _∷_, _++_}
 use Prim.Native.Nat.{ℕ, _+_}
 use lib.Dec.{leb}
 use lib.ListN.{getD, take, drop}
-use Rattle.groups.specs.Group.{orderCount}
+use Rattle.rows.specs.Orders.{orderCount}
 use Rattle.observation.specs.declared.Observation.{Observation}
-use Rattle.observation.specs.Soundness.{largestValue}
+use Rattle.rows.specs.Rows.{largestValue}
 
 -- the places, each once
 abbrev pub systemPlace : ℕ

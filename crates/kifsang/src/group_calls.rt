@@ -5,7 +5,7 @@ use crate::words::hand_over;
 use crate::words::hand_over_values;
 use crate::words::row_values;
 use groups::Kind;
-use groups::ORDER_COUNT;
+use rows::ORDER_COUNT;
 ghost use mathlib.Core.Path.{_≡_};
 ghost use Rattle.kifsang.specs.Kinds.{isKind, kindWith};
 ghost use Rattle.kifsang.specs.GroupCalls.{groupCallRefusal, groupCallValue, rowCallRefusal, rowCallValues, distortionCallRefusal, distortionCallValue};

@@ -2,7 +2,7 @@
 use crate::WRONG_WORD_COUNT;
 use crate::words::hand_over;
 use crate::words::row_values;
-use groups::ORDER_COUNT;
+use rows::ORDER_COUNT;
 ghost use mathlib.Core.Path.{_≡_};
 ghost use Rattle.kifsang.specs.ListingCall.{listingCallRefusal, listingCallBytes, listingCallCount};
 

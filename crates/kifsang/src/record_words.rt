@@ -1,6 +1,6 @@
 // An observation record as words. The places of its parts stand here once for the code, and in
 // specs/Words.antt once for the contracts.
-use groups::ORDER_COUNT;
+use rows::ORDER_COUNT;
 use observation::Observation;
 use observation::Recorded;
 use refusals::NO_REFUSAL;
@@ -9,7 +9,7 @@ ghost use mathlib.Core.Path.{_≡_};
 ghost use Prim.Native.Nat.{_+_, _≤_};
 ghost use lib.ListN.{length, take, drop};
 ghost use lib.Seq.{paste};
-ghost use Rattle.groups.specs.Group.{orderCount};
+ghost use Rattle.rows.specs.Orders.{orderCount};
 ghost use Rattle.refusals.specs.Answers.{unlessRefused};
 ghost use Rattle.kifsang.specs.Words.{recordWords, recordOf, wordsOf, countsFit};
 

@@ -1,12 +1,12 @@
 // A row that a caller lends, as the library's array; an answer as its number and its value; a row that is answered.
-use groups::ORDER_COUNT;
+use rows::ORDER_COUNT;
 use groups::OrderValues;
-use groups::first_values;
+use rows::first_values;
 use refusals::Answer;
 use refusals::NO_REFUSAL;
 ghost use mathlib.Core.Path.{_≡_};
 ghost use lib.ListN.{length};
-ghost use Rattle.groups.specs.Group.{orderCount};
+ghost use Rattle.rows.specs.Orders.{orderCount};
 ghost use Rattle.refusals.specs.Answers.{unlessRefused};
 
 // The 40 words of a row.

@@ -6,8 +6,9 @@ use mathlib.Core.List.{List, [], _∷_}
 use Prim.Native.Nat.{ℕ, _<_}
 use lib.ListN.{getD, getD-replicate}
 use Rattle.algebra.proofs.Lists.{getD-tabulate}
-use Rattle.groups.specs.Group.{isSystem, orderCount}
-use Rattle.observation.specs.declared.Row.{Row}
+use Rattle.rows.specs.Systems.{isSystem}
+use Rattle.rows.specs.Orders.{orderCount}
+use Rattle.rows.specs.declared.Row.{Row}
 use Rattle.observation.specs.declared.Observation.{Observation}
 use Rattle.observation.specs.Book.{Book, emptyBook, bookStep}
 use Rattle.observation.specs.Smoothing.{reported}

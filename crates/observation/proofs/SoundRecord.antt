@@ -11,18 +11,21 @@ use borrow.Author.Tests.{eqb-true, leb-true, leb-false, le-leb, ne-eqb, not-fals
 use lib.Dec.{eqb, leb}
 use lib.ListN.{getD}
 use Rattle.algebra.specs.Lists.{anyOf}
-use Rattle.groups.specs.Group.{isSystem, orderCount}
+use Rattle.rows.specs.Systems.{isSystem, refusedSystem}
+use Rattle.rows.specs.Orders.{orderCount}
 use Rattle.refusals.specs.Numbers.{noRefusal, unknownSystem, unsoundRecord, otherSystem, recordFull}
 use Rattle.refusals.specs.Answers.{firstFault}
+use Rattle.rows.proofs.Systems.{refused-system-known}
 use Rattle.refusals.proofs.Answers.{no-fault}
-use Rattle.observation.specs.declared.Row.{Row}
+use Rattle.rows.specs.declared.Row.{Row}
 use Rattle.observation.specs.declared.Observation.{Observation}
 use Rattle.observation.specs.Book.{bookStep, smoothedNext}
 use Rattle.observation.specs.Smoothing.{reported}
-use Rattle.observation.specs.Soundness.{mostWindows, largestValue, noneAbove, allZero, isSound}
-use Rattle.observation.specs.Calls.{emptyRecord, refusedSystem, freshRefusal, freshAnswer, bookAt, nextBook, withRow, rowChecks, addRowRefusal, addRowAnswer}
+use Rattle.observation.specs.Soundness.{mostWindows, noneAbove, allZero, isSound}
+use Rattle.rows.specs.Rows.{largestValue, ValuesFit}
+use Rattle.observation.specs.Calls.{emptyRecord, freshRefusal, freshAnswer, bookAt, nextBook, withRow, rowChecks, addRowRefusal, addRowAnswer}
 use Rattle.observation.specs.CallList.{recordAfter}
-use Rattle.observation.specs.BookCalls.{accepts, EachAccepted, ValuesFit, AcceptedFit}
+use Rattle.observation.specs.BookCalls.{accepts, EachAccepted, AcceptedFit}
 use Rattle.observation.proofs.NoneAbove.{getD-le-of-none-above, none-above-tabulate}
 use Rattle.observation.proofs.Smoothed.{smoothed-next-le}
 
@@ -76,10 +79,6 @@ fresh-of-known system e = rw e
 pub fresh-of-unknown : (system : ℕ) → isSystem system ≡ false → freshAnswer system .observation ≡ emptyRecord refusedSystem
 unfolding freshAnswer freshRefusal
 fresh-of-unknown system e = rw e
-
-pub refused-system-known : isSystem refusedSystem ≡ true
-unfolding isSystem
-refused-system-known = refl
 
 -- the fresh record is sound, refused or not
 pub fresh-sound : (system : ℕ) → isSound (freshAnswer system .observation) ≡ true

@@ -6,7 +6,7 @@ use Prim.Native.Nat.{ℕ}
 use lib.ListN.{replicate}
 use Rattle.algebra.specs.Lists.{tabulate, anyOf}
 use Rattle.algebra.specs.Rounding.{nearest}
-use Rattle.groups.specs.Group.{isSystem}
+use Rattle.rows.specs.Systems.{isSystem}
 use Rattle.observation.specs.declared.Observation.{Observation}
 use Rattle.observation.specs.declared.Recorded.{Recorded}
 use Rattle.observation.specs.Book.{smoothedNext, bookStep}

@@ -1,15 +1,15 @@
 -- A book over a list of add row calls (document 01, "Exact book"): it is fed the row of each call and, for a row that it accepts, a value.
 use mathlib.Core.Bool.{Bool, cond}
 use mathlib.Core.List.{List, [], _∷_, map}
-use Prim.Native.Nat.{ℕ, _+_, _≤_}
+use Prim.Native.Nat.{ℕ, _+_}
 use lib.Dec.{eqb}
 use lib.ListN.{getD}
 use Rattle.refusals.specs.Numbers.{noRefusal}
 use Rattle.refusals.specs.Answers.{firstFault}
-use Rattle.observation.specs.declared.Row.{Row}
+use Rattle.rows.specs.declared.Row.{Row}
 use Rattle.observation.specs.Book.{Numbers, Book, bookStep}
 use Rattle.observation.specs.Smoothing.{reported}
-use Rattle.observation.specs.Soundness.{largestValue}
+use Rattle.rows.specs.Rows.{ValuesFit}
 use Rattle.observation.specs.Calls.{rowChecks}
 
 -- a row that a book with this system and count accepts
@@ -44,10 +44,6 @@ module _ (𝓝 : Numbers) where
 -- the reported book of the order at a place is fed the row's own value
 unfoldable pub ownValues : ℕ → List Row → List (Fed reported)
 ownValues i rows = map (λ row. record { row = row; value = getD (row .values) i 0 }) rows
-
--- "40 values of 32 bits without sign"
-unfoldable pub ValuesFit : Row → Type 0
-ValuesFit row = (i : ℕ) → getD (row .values) i 0 ≤ largestValue
 
 -- each row that a book with this system and count accepts holds such values
 abbrev pub AcceptedFit : ℕ → ℕ → List Row → Type 0

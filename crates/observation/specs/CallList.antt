@@ -3,8 +3,8 @@ use mathlib.Core.List.{List, [], _∷_}
 use Prim.Native.Nat.{ℕ, _+_, _*_, _/_}
 use lib.ListN.{length, getD, take, drop}
 use Rattle.algebra.specs.Lists.{tabulate}
-use Rattle.groups.specs.Group.{orderCount}
-use Rattle.observation.specs.declared.Row.{Row}
+use Rattle.rows.specs.Orders.{orderCount}
+use Rattle.rows.specs.declared.Row.{Row}
 use Rattle.observation.specs.declared.Observation.{Observation}
 use Rattle.observation.specs.Calls.{addRowAnswer}
 

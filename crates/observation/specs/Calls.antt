@@ -5,10 +5,11 @@ use Prim.Native.Nat.{ℕ, _+_}
 use lib.Dec.{eqb, leb}
 use lib.ListN.{getD, replicate}
 use Rattle.algebra.specs.Lists.{tabulate}
-use Rattle.groups.specs.Group.{isSystem, orderCount}
+use Rattle.rows.specs.Orders.{orderCount}
+use Rattle.rows.specs.Systems.{isSystem, refusedSystem}
 use Rattle.refusals.specs.Numbers.{unknownSystem, unsoundRecord, otherSystem, recordFull}
 use Rattle.refusals.specs.Answers.{firstFault, unlessRefused}
-use Rattle.observation.specs.declared.Row.{Row}
+use Rattle.rows.specs.declared.Row.{Row}
 use Rattle.observation.specs.declared.Observation.{Observation}
 use Rattle.observation.specs.declared.Recorded.{Recorded}
 use Rattle.observation.specs.Book.{Book, bookStep}
@@ -29,9 +30,6 @@ emptyRecord system =
 -- 1; a refused fresh record is system 10 with zeros
 unfoldable pub freshRefusal : ℕ → ℕ
 freshRefusal system = firstFault ((not (isSystem system), unknownSystem) ∷ [])
-
-abbrev pub refusedSystem : ℕ
-refusedSystem = 10
 
 unfoldable pub freshAnswer : ℕ → Recorded
 freshAnswer system =

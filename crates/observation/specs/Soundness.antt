@@ -1,19 +1,16 @@
 -- Which records are sound (document 01, "The observation record").
 use mathlib.Core.Bool.{Bool, not, _&&_, _||_}
 use mathlib.Core.List.{List}
-use Prim.Native.Nat.{ℕ, _-_, _*_, _^_}
+use Prim.Native.Nat.{ℕ, _*_}
 use lib.Dec.{eqb, leb, ltb}
 use Rattle.algebra.specs.Lists.{anyOf}
-use Rattle.groups.specs.Group.{isSystem}
+use Rattle.rows.specs.Rows.{largestValue}
+use Rattle.rows.specs.Systems.{isSystem}
 use Rattle.observation.specs.declared.Observation.{Observation}
 
 -- at most 45,000 windows, 2.5 hours
 abbrev pub mostWindows : ℕ
 mostWindows = 45000
-
--- the largest value of a row: 2^32 − 1
-abbrev pub largestValue : ℕ
-largestValue = 2 ^ 32 - 1
 
 -- no value is above the limit
 unfoldable pub noneAbove : ℕ → List ℕ → Bool

@@ -3,7 +3,8 @@ ghost use mathlib.Core.Path.{_≡_};
 ghost use Prim.Native.Nat.{_≤_, _<_, _*_, max};
 ghost use Rattle.observation.specs.Book.{smoothedNext, bookStep};
 ghost use Rattle.observation.specs.Smoothing.{smoothedValue, reported};
-ghost use Rattle.observation.specs.Soundness.{mostWindows, largestValue};
+ghost use Rattle.observation.specs.Soundness.{mostWindows};
+ghost use Rattle.rows.specs.Rows.{largestValue};
 ghost use Rattle.observation.specs.OrderBook.{reportedBook};
 
 // The reported book of one order.

@@ -1,9 +1,9 @@
 // A list of add row calls: each gets the record that the call before returned.
 use crate::Observation;
-use crate::Row;
 use crate::calls::add_row;
-use groups::ORDER_COUNT;
-use groups::first_values;
+use rows::ORDER_COUNT;
+use rows::Row;
+use rows::first_values;
 ghost use mathlib.Core.Path.{_≡_};
 ghost use Prim.Native.Nat.{_+_, _*_, _≤_};
 ghost use lib.ListN.{length};

@@ -1,24 +1,22 @@
 // The calls that make a record and add a row to it.
 use crate::Observation;
 use crate::Recorded;
-use crate::Row;
 use crate::book::OrderBook;
 use crate::book::book_step;
 use crate::soundness::MOST_WINDOWS;
 use crate::soundness::is_sound;
-use groups::ORDER_COUNT;
-use groups::is_system;
 use refusals::NO_REFUSAL;
 use refusals::OTHER_SYSTEM;
 use refusals::RECORD_FULL;
 use refusals::UNKNOWN_SYSTEM;
 use refusals::UNSOUND_RECORD;
+use rows::ORDER_COUNT;
+use rows::REFUSED_SYSTEM;
+use rows::Row;
+use rows::is_system;
 ghost use mathlib.Core.Path.{_≡_};
 ghost use Rattle.refusals.specs.Numbers.{noRefusal};
 ghost use Rattle.observation.specs.Calls.{emptyRecord, freshAnswer, withRow, addRowRefusal, addRowAnswer};
-
-// The system of a record that is refused.
-const REFUSED_SYSTEM: u32 = 10;
 
 // A record of a system with zeros.
 fn empty_record(system: u32) -> Observation

@@ -8,15 +8,9 @@ mod soundness;
 pub use call_list::add_rows;
 pub use calls::add_row;
 pub use calls::fresh_record;
-use groups::ORDER_COUNT;
+use rows::ORDER_COUNT;
 pub use soundness::MOST_WINDOWS;
 pub use soundness::is_sound;
-
-// The values of the 40 orders of one window, orders 1..40 at the places 0..39, with their system.
-pub struct Row {
-    pub system: u32,
-    pub values: [u32; ORDER_COUNT],
-}
 
 // Document 01's observation record. Any numbers may stand in it; which records are sound is said
 // in specs/Soundness.antt.

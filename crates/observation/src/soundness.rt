@@ -1,14 +1,13 @@
 // Which records are sound.
 use crate::Observation;
-use groups::is_system;
-use integers::lists::any_above;
+use lists::any_above;
+use rows::LARGEST_VALUE;
+use rows::is_system;
 ghost use mathlib.Core.Path.{_≡_};
 ghost use Rattle.observation.specs.Soundness.{noneAbove, allZero, isSound};
 
 // At most 45,000 windows, 2.5 hours.
 pub const MOST_WINDOWS: u32 = 45000;
-// The largest value of a row: 2^32 - 1.
-const LARGEST_VALUE: u64 = 4294967295;
 
 // No value is above the limit.
 fn none_above(values: &[u64], limit: u64) -> bool

@@ -10,7 +10,7 @@ use borrow.Author.Tests.{ne-eqb, lt-ltb, le-ltb}
 use lib.IntN.{ℤ, pos, negsuc}
 use Rattle.refusals.specs.Numbers.{noRefusal, notAColumn, unknownSystem}
 use Rattle.columns.specs.Calls.{readingOf}
-use Rattle.groups.specs.Group.{isSystem}
+use Rattle.rows.specs.Systems.{isSystem}
 use Rattle.observation.specs.Calls.{freshRefusal, freshAnswer}
 use Rattle.recordings.specs.Lines.{lineAt, lineNumber, numberOr0, numberAt}
 use Rattle.recordings.specs.Faults.{isNone, noSystem, numberFault, lineFault}

@@ -19,14 +19,14 @@ use Rattle.columns.specs.Calls.{columnWidth}
 use Rattle.spectrum.specs.Line.{windowLength, linesOf}
 use Rattle.groups.specs.declared.Kind.{Kind}
 use Rattle.groups.specs.declared.Kind.the-variants.{HarmonicGroup, HarmonicSubgroup}
-use Rattle.groups.specs.Group.{isSystem}
+use Rattle.rows.specs.Systems.{isSystem}
 use Rattle.groups.proofs.GroupSum.{group-values-le}
-use Rattle.observation.specs.declared.Row.{Row}
+use Rattle.rows.specs.declared.Row.{Row}
 use Rattle.observation.specs.declared.Observation.{Observation}
 use Rattle.observation.specs.Soundness.{isSound, mostWindows}
 use Rattle.observation.specs.Calls.{emptyRecord, rowChecks, addRowRefusal, addRowAnswer, withRow}
 use Rattle.observation.specs.CallList.{recordAfter}
-use Rattle.observation.specs.BookCalls.{ValuesFit}
+use Rattle.rows.specs.Rows.{ValuesFit}
 use Rattle.observation.proofs.SoundRecord.{sound-parts, empty-record-sound, fresh-of-known, with-row-sound}
 use Rattle.refusals.proofs.Answers.{no-fault}
 use Rattle.observation.proofs.CallList.{record-after-tabulate}

@@ -8,7 +8,7 @@ use lib.IntN.{ℤ}
 use lib.ListN.{length}
 use Rattle.refusals.specs.Numbers.{noRefusal, shortWindow}
 use Rattle.groups.specs.declared.Kind.the-variants.{HarmonicGroup}
-use Rattle.observation.specs.declared.Row.{Row}
+use Rattle.rows.specs.declared.Row.{Row}
 use Rattle.observation.specs.declared.Observation.{Observation}
 use Rattle.observation.specs.Soundness.{mostWindows}
 use Rattle.observation.specs.Calls.{addRowRefusal, addRowAnswer, withRow}

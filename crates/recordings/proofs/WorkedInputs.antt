@@ -12,7 +12,7 @@ use Rattle.algebra.specs.Computed.{allPass}
 use Rattle.columns.specs.Text.{newline, bytesOf}
 use Rattle.columns.specs.Column.{isDigit, areDigits, isWhole, placeValue, wholeNumber, negativeNumber, signedNumber, afterBlanks, columnNumber}
 use Rattle.spectrum.specs.Spectrum.{outOfRange}
-use Rattle.groups.specs.Group.{isSystem}
+use Rattle.rows.specs.Systems.{isSystem}
 use Rattle.recordings.specs.Lines.{lineCountOf, lineAt, lineNumber, numberOr0}
 use Rattle.recordings.specs.Faults.{noSystem, isNone, numberFault, lineFault, firstOf, faultBefore, endFault, inputRefusal}
 

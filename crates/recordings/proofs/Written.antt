@@ -19,7 +19,8 @@ use Rattle.columns.proofs.Column.{length-of-text}
 use Rattle.columns.proofs.Lines.{order-fits}
 use Rattle.columns.proofs.Refusals.{write-fits, is-worked}
 use Rattle.observation.specs.declared.Observation.{Observation}
-use Rattle.observation.specs.Soundness.{isSound, largestValue, noneAbove}
+use Rattle.observation.specs.Soundness.{isSound, noneAbove}
+use Rattle.rows.specs.Rows.{largestValue}
 use Rattle.observation.proofs.SoundRecord.{sound-parts}
 use Rattle.observation.proofs.NoneAbove.{none-above-of-getD-le}
 use Rattle.recordings.specs.declared.Reading.{Reading}

@@ -9,7 +9,7 @@ use Rattle.refusals.specs.Numbers.{noRefusal, notAColumn, unknownSystem, sample
 use Rattle.refusals.specs.Answers.{firstFault}
 use Rattle.spectrum.specs.Line.{windowLength}
 use Rattle.spectrum.specs.Spectrum.{outOfRange}
-use Rattle.groups.specs.Group.{isSystem}
+use Rattle.rows.specs.Systems.{isSystem}
 use Rattle.observation.specs.Soundness.{mostWindows}
 use Rattle.recordings.specs.Lines.{lineCountOf, lineAt, lineNumber, numberOr0}
 

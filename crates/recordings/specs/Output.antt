@@ -11,7 +11,7 @@ use Rattle.spectrum.specs.Line.{windowLength, linesOf}
 use Rattle.groups.specs.declared.Kind.{Kind}
 use Rattle.groups.specs.declared.Kind.the-variants.{HarmonicGroup, HarmonicSubgroup}
 use Rattle.groups.specs.Group.{groupValues}
-use Rattle.observation.specs.declared.Row.{Row}
+use Rattle.rows.specs.declared.Row.{Row}
 use Rattle.observation.specs.declared.Observation.{Observation}
 use Rattle.observation.specs.Calls.{freshAnswer}
 use Rattle.observation.specs.CallList.{recordAfter}

@@ -14,9 +14,10 @@ use Rattle.columns.specs.Calls.{listingFault}
 use Rattle.spectrum.specs.Line.{windowLength}
 use Rattle.spectrum.specs.Spectrum.{outOfRange}
 use Rattle.groups.specs.declared.Kind.the-variants.{HarmonicGroup, HarmonicSubgroup}
-use Rattle.groups.specs.Group.{orderCount}
+use Rattle.rows.specs.Orders.{orderCount}
 use Rattle.observation.specs.Soundness.{isSound}
-use Rattle.observation.specs.Calls.{emptyRecord, refusedSystem, addRowAnswer}
+use Rattle.observation.specs.Calls.{emptyRecord, addRowAnswer}
+use Rattle.rows.specs.Systems.{refusedSystem}
 use Rattle.recordings.specs.declared.Reading.{Reading}
 use Rattle.recordings.specs.Lines.{lineBytes, lineCountOf, lineAt, lineNumber, numberOr0, numberAt}
 use Rattle.recordings.specs.Faults.{isNone, lineFault, firstOf}

@@ -4,7 +4,7 @@ use columns::LISTING_ROOM;
 use columns::REFUSAL_LINE_LENGTH;
 use columns::fill_listing;
 use columns::fill_refusal_line;
-use groups::ORDER_COUNT;
+use rows::ORDER_COUNT;
 use observation::is_sound;
 use refusals::Answer;
 use refusals::NO_REFUSAL;
@@ -17,7 +17,8 @@ ghost use lib.ListN.{length};
 ghost use Rattle.refusals.specs.Answers.{answer};
 ghost use Rattle.columns.specs.Listing.{listingText};
 ghost use Rattle.columns.specs.Calls.{listingFault, listingWritten};
-ghost use Rattle.observation.specs.Soundness.{largestValue, noneAbove, isSound};
+ghost use Rattle.observation.specs.Soundness.{noneAbove, isSound};
+ghost use Rattle.rows.specs.Rows.{largestValue};
 ghost use Rattle.recordings.specs.Reading.{finishFault, outputOf, outputWritten};
 
 // The refusal at the end: that of the reading, 7 for a reading that no call gave, 10 where no

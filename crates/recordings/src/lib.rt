@@ -11,7 +11,7 @@ pub use blocks::begin;
 pub use blocks::take_block;
 use columns::COLUMN_WIDTH;
 pub use ending::finish;
-use groups::ORDER_COUNT;
+use rows::ORDER_COUNT;
 use observation::Observation;
 use spectrum::WINDOW_LENGTH;
 

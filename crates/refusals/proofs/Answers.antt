@@ -1,16 +1,51 @@
--- What it tells that a row of checks finds no fault, and worked checks and answers.
-use mathlib.Core.Path.{_≡_, refl}
-use mathlib.Core.Bool.{Bool, true, false, cond}
+-- What it tells that a row of checks finds no fault, what stands where a call is accepted or refused, and worked checks and answers.
+use mathlib.Core.Path.{_≡_, refl, sym}
+use mathlib.Core.Bool.{Bool, true, false, cond, _&&_}
 use mathlib.Core.List.{List, [], _∷_}
 use Prim.Native.Nat.{ℕ, _<_}
 use native.Mathlib.Omega.{arith}
+use borrow.Author.Tests.{eq-eqb, ne-eqb, ltb-true}
+use lib.Dec.{eqb, ltb}
 use Rattle.refusals.specs.Numbers.{noRefusal}
-use Rattle.refusals.specs.Answers.{firstFault, answer}
+use Rattle.refusals.specs.Answers.{firstFault, unlessRefused, answer}
 
 -- the first check of a row finds no fault, and neither do those after it
 pub no-fault : (fault : Bool) (number rest : ℕ) → 0 < number → cond fault number rest ≡ noRefusal → (fault ≡ false) × (rest ≡ noRefusal)
 no-fault true number rest positive e = absurd (omega arith)
 no-fault false number rest positive e = (refl, e)
+
+-- the numbers of a row of checks are above 0, as those of every refusal; computed
+abbrev pub numbered : List (Bool × ℕ) → Bool
+numbered [] = true
+numbered (check ∷ checks) = cond (ltb 0 (check .1)) (numbered checks) false
+
+-- the fault that a row tests for with a number, computed: a row's test by its number, wherever in the row it stands
+abbrev pub faultWith : ℕ → List (Bool × ℕ) → Bool
+faultWith number [] = false
+faultWith number (check ∷ checks) = cond (eqb (check .1) number) (check .0) (faultWith number checks)
+
+-- where nothing is refused, no check of the row finds its fault
+pub no-faults : (checks : List (Bool × ℕ)) → numbered checks ≡ true → firstFault checks ≡ noRefusal → (number : ℕ) → faultWith number checks ≡ false
+no-faults [] positive e number = refl
+no-faults ((fault, own) ∷ checks) positive e number = by-number (ltb 0 own) refl positive (λ rest passed. no-faults checks rest passed number)
+  where
+    by-test : (same : Bool) → fault ≡ false → faultWith number checks ≡ false → cond same fault (faultWith number checks) ≡ false
+    by-test true here later = here
+    by-test false here later = later
+
+    by-number : (above : Bool) → ltb 0 own ≡ above → cond above (numbered checks) false ≡ true → (numbered checks ≡ true → firstFault checks ≡ noRefusal → faultWith number checks ≡ false) → cond (eqb own number) fault (faultWith number checks) ≡ false
+    by-number true p rest later =
+        let passed = no-fault fault own (firstFault checks) (ltb-true 0 own p) e in
+        by-test (eqb own number) (passed .0) (later rest (passed .1))
+    by-number false p rest later = absurd (mathlib.Core.Bool.true≢false (sym rest))
+
+-- what stands after a call that is accepted, and after one that is refused
+module _ {ℓ} {A : Type ℓ} (refusal : ℕ) (accepted unchanged : A) where
+  pub unlessRefused-accepted : refusal ≡ noRefusal → unlessRefused refusal accepted unchanged ≡ accepted
+  unlessRefused-accepted e = rw (eq-eqb refusal noRefusal e)
+
+  pub unlessRefused-refused : (refusal ≡ noRefusal → ⊥) → unlessRefused refusal accepted unchanged ≡ unchanged
+  unlessRefused-refused e = rw (ne-eqb refusal noRefusal e)
 
 -- two checks with the numbers 1 and 2
 abbrev checks : Bool → Bool → List (Bool × ℕ)
@@ -20,6 +55,10 @@ checks first second = (first, 1) ∷ (second, 2) ∷ []
 first-decides : (firstFault (checks true true) ≡ 1) × (firstFault (checks true false) ≡ 1)
     × (firstFault (checks false true) ≡ 2) × (firstFault (checks false false) ≡ 0)
 first-decides = (refl, refl, refl, refl)
+
+-- each of the two is found by its number
+second-passed : (first second : Bool) → firstFault (checks first second) ≡ noRefusal → second ≡ false
+second-passed first second e = no-faults (checks first second) refl e 2
 
 -- "A refusal gives its number with 0 as value"
 answers-worked : (answer 0 9 ≡ record { refusal = 0; value = 9 }) × (answer 1 9 ≡ record { refusal = 1; value = 0 })

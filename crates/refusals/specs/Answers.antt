@@ -11,10 +11,10 @@ abbrev pub firstFault : List (Bool × ℕ) → ℕ
 firstFault [] = noRefusal
 firstFault (check ∷ checks) = cond (check .0) (check .1) (firstFault checks)
 
--- what stands on the way that works, and what stands where the call is refused
+-- what stands on success, and what stands where the call is refused
 abbrev pub unlessRefused {ℓ} : {A : Type ℓ} → ℕ → A → A → A
-unlessRefused refusal worked unchanged = cond (eqb refusal noRefusal) worked unchanged
+unlessRefused refusal accepted unchanged = cond (eqb refusal noRefusal) accepted unchanged
 
 -- "A refusal gives its number with 0 as value"
 abbrev pub answer : ℕ → ℕ → Answer
-answer refusal worked = record { refusal = refusal; value = unlessRefused refusal worked 0 }
+answer refusal accepted = record { refusal = refusal; value = unlessRefused refusal accepted 0 }

@@ -60,3 +60,7 @@ notAColumn = 13
 -- text buffer of the wrong length
 abbrev pub wrongBufferLength : ℕ
 wrongBufferLength = 14
+
+-- no refusal of document 01 has a larger number
+abbrev pub largestRefusal : ℕ
+largestRefusal = wrongBufferLength

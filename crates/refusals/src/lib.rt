@@ -1,5 +1,7 @@
 // The refusal numbers of document 01's table, each once, under a name that says what it refuses.
-// specs/Numbers.antt has the same numbers once for the contracts.
+// specs/Numbers.antt has the same numbers once for the contracts. A row of checks is a nest of fault_or.
+ghost use mathlib.Core.Bool.{cond};
+ghost use mathlib.Core.Path.{_≡_};
 
 // The call worked: nothing is refused.
 pub const NO_REFUSAL: u32 = 0;
@@ -31,9 +33,18 @@ pub const NO_FUNDAMENTAL: u32 = 12;
 pub const NOT_A_COLUMN: u32 = 13;
 // A text buffer of the wrong length.
 pub const WRONG_BUFFER_LENGTH: u32 = 14;
+// No refusal of document 01 has a larger number.
+pub const LARGEST_REFUSAL: u32 = WRONG_BUFFER_LENGTH;
 
 // What a public call answers: NO_REFUSAL with the value, or a refusal's number with 0.
 pub struct Answer {
     pub refusal: u32,
     pub value: u64,
+}
+
+// One check of a row: the number of a fault that is there, or what the checks after it answer.
+pub fn fault_or(fault: bool, number: u32, rest: u32) -> u32
+    ensures { λ r. ⌜ r ≡ cond fault number rest ⌝ }
+{
+    if fault { number } else { rest }
 }

@@ -9,7 +9,7 @@ use lib.ListN.{replicate}
 use borrow.Author.Tests.{ne-eqb}
 use Rattle.algebra.specs.Fraction.{Fraction, whole, scale, divide}
 use Rattle.algebra.proofs.Computed.{pass-at}
-use Rattle.groups.specs.Group.{orderCount}
+use Rattle.rows.specs.Orders.{orderCount}
 use Rattle.verdict.specs.Limit.{ownFigures, overOrder, figureIn, limitOf}
 use Rattle.verdict.specs.Tests.{milliamperes, limitInUnits, peakLimitInUnits}
 use Rattle.verdict.specs.Call.{largestScale}

@@ -8,7 +8,7 @@ use native.Mathlib.Omega.{arith}
 use lib.Dec.{eqb, leb}
 use borrow.Author.Tests.{leb-true, leb-false, ltb-true, ltb-false, eqb-false, not-false}
 use Rattle.algebra.specs.Fraction.{Fraction, whole, _+ᶠ_, _≤ᶠ_, _<ᶠ_}
-use Rattle.groups.specs.Group.{orderCount}
+use Rattle.rows.specs.Orders.{orderCount}
 use Rattle.refusals.specs.Numbers.{noRefusal, unsoundRecord, noWindow, orderOutOfRange, scaleOutOfRange}
 use Rattle.refusals.proofs.Answers.{no-fault}
 use Rattle.observation.specs.declared.Observation.{Observation}

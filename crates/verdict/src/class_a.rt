@@ -6,7 +6,7 @@ use crate::comparison::is_over;
 use crate::comparison::is_within;
 use crate::limit::limit_in_units;
 use crate::limit::peak_limit_in_units;
-use groups::ORDER_COUNT;
+use rows::ORDER_COUNT;
 use observation::Observation;
 use observation::is_sound;
 use refusals::NO_REFUSAL;

@@ -2,7 +2,7 @@
 use crate::comparison::Fraction;
 ghost use Prim.Native.Nat.{_<_, _≤_};
 ghost use Rattle.algebra.specs.Fraction.{whole};
-ghost use Rattle.groups.specs.Group.{orderCount};
+ghost use Rattle.rows.specs.Orders.{orderCount};
 ghost use Rattle.verdict.specs.Limit.{overOrder, limitOf};
 ghost use Rattle.verdict.specs.Tests.{limitInUnits, peakLimitInUnits};
 ghost use Rattle.verdict.specs.Call.{largestScale};

@@ -12,7 +12,9 @@ use Rattle.algebra.specs.Rounding.{nearest}
 use Rattle.algebra.specs.Fraction.{whole, scale, divide, _+ᶠ_}
 use Rattle.integers.specs.Root.{rootOf}
 use Rattle.groups.specs.Weights.{wholeLines, weightsOf, weightedSum}
-use Rattle.groups.specs.Group.{isSystem, isOrder, groupValue, groupRefusal, groupAnswer, groupValues}
+use Rattle.groups.specs.Group.{groupValue, groupRefusal, groupAnswer, groupValues}
+use Rattle.rows.specs.Systems.{isSystem}
+use Rattle.rows.specs.Orders.{isOrder}
 use Rattle.groups.specs.Distortion.{sumOfSquares, distortionOf, distortionAnswer}
 use Rattle.observation.specs.Soundness.{noneAbove, allZero, isSound}
 use Rattle.observation.specs.Book.{smoothedNext, bookStep}

@@ -13,9 +13,10 @@ use Rattle.spectrum.specs.Line.{windowAt, linesOf}
 use Rattle.spectrum.specs.Spectrum.{spectrumRefusal, spectrumBuffer}
 use Rattle.groups.specs.declared.Kind.{Kind}
 use Rattle.groups.specs.declared.Kind.the-variants.{HarmonicGroup}
-use Rattle.groups.specs.Group.{isSystem, groupAnswer}
+use Rattle.groups.specs.Group.{groupAnswer}
+use Rattle.rows.specs.Systems.{isSystem}
 use Rattle.groups.specs.Exact.{exactGroup}
-use Rattle.observation.specs.declared.Row.{Row}
+use Rattle.rows.specs.declared.Row.{Row}
 use Rattle.observation.specs.Book.{Book}
 use Rattle.observation.specs.Smoothing.{reported}
 use Rattle.observation.specs.Calls.{bookAt}

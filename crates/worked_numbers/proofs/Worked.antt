@@ -21,7 +21,9 @@ use Rattle.spectrum.proofs.Pulse.{pulse-line}
 use Rattle.groups.specs.Weights.{wholeLines, weightsOf, weightedSum}
 use Rattle.groups.specs.declared.Kind.{Kind}
 use Rattle.groups.specs.declared.Kind.the-variants.{Component, HarmonicGroup, HarmonicSubgroup, InterharmonicGroup, InterharmonicCentredSubgroup}
-use Rattle.groups.specs.Group.{isSystem, isOrder, groupValue, groupAnswer}
+use Rattle.groups.specs.Group.{groupValue, groupAnswer}
+use Rattle.rows.specs.Systems.{isSystem}
+use Rattle.rows.specs.Orders.{isOrder}
 use Rattle.observation.specs.Book.{smoothedNext, bookStep}
 use Rattle.observation.specs.Smoothing.{smoothedValue}
 use Rattle.observation.specs.Soundness.{noneAbove, allZero, isSound}

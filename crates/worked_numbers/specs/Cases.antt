@@ -12,8 +12,9 @@ use Rattle.sine.specs.Wave.{tableEntry}
 use Rattle.spectrum.specs.Line.{windowLength, lineCount, linesOf}
 use Rattle.groups.specs.declared.Kind.{Kind}
 use Rattle.groups.specs.declared.Kind.the-variants.{Component, HarmonicGroup, HarmonicSubgroup, InterharmonicGroup, InterharmonicCentredSubgroup}
-use Rattle.groups.specs.Group.{orderCount, isOrder, groupAnswer}
-use Rattle.observation.specs.declared.Row.{Row}
+use Rattle.groups.specs.Group.{groupAnswer}
+use Rattle.rows.specs.Orders.{orderCount, isOrder}
+use Rattle.rows.specs.declared.Row.{Row}
 use Rattle.observation.specs.declared.Observation.{Observation}
 use Rattle.observation.specs.Calls.{freshAnswer}
 use Rattle.observation.specs.CallList.{recordAfter}

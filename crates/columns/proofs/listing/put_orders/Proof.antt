@@ -3,7 +3,7 @@ use mathlib.Core.Path.{_≡_}
 use Prim.Native.Nat.{_+_, _-_, _*_, _≤_}
 use native.Mathlib.Numerals.{add-one}
 use native.Mathlib.Omega.{arith}
-use Rattle.groups.specs.Group.{orderCount}
+use Rattle.rows.specs.Orders.{orderCount}
 use Rattle.columns.specs.Text.{Put}
 use Rattle.columns.specs.Listing.{lineLength, ordersText}
 use Rattle.columns.proofs.Puts.{put-none, put-then, put-length}

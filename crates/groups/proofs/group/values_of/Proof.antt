@@ -6,7 +6,8 @@ use borrow.Author.Needs.{needs}
 use lib.ListN.{replicate}
 use Rattle.algebra.specs.Lists.{tabulate}
 use Rattle.algebra.proofs.Filling.{Filled, filled-more, filled-whole}
-use Rattle.groups.specs.Group.{orderCount, groupAnswer, groupValues}
+use Rattle.groups.specs.Group.{groupAnswer, groupValues}
+use Rattle.rows.specs.Orders.{orderCount}
 use Rattle.groups.proofs.GroupSum.{refusal-shared, accepted-value}
 use Rattle.groups.proofs.group.values_of.Statement.{statement}
 use Rattle.groups.proofs.group.values_of.Tie as tie

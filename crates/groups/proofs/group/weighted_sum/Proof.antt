@@ -9,7 +9,8 @@ use Rattle.groups.specs.Group.{lineAt}
 use Rattle.groups.specs.declared.Kind.{Kind}
 use Rattle.groups.specs.declared.Kind.the-variants.{Component, HarmonicGroup, HarmonicSubgroup, InterharmonicGroup, InterharmonicCentredSubgroup}
 use Rattle.groups.specs.Weights.{weightsOf, weightedSum}
-use Rattle.groups.proofs.Weights.{SystemBounds, CentreBounds, system-bounds, centre-bounds, wholeLines-one}
+use Rattle.groups.proofs.Weights.{CentreBounds, centre-bounds, wholeLines-one}
+use Rattle.rows.proofs.Systems.{system-bounds, SystemBounds}
 use Rattle.groups.proofs.GroupSum.{accepted, group-sum-lt}
 use Rattle.groups.proofs.group.weighted_sum.Statement.{statement}
 use Rattle.groups.proofs.group.weighted_sum.Tie as tie

@@ -9,7 +9,7 @@ use lib.Seq.{take-all}
 use mir.Syntax.{w32}
 use mir.Val.{Fits}
 use Rattle.integers.specs.Wide.{wideLimbs, limbsOf}
-use Rattle.groups.specs.Group.{orderCount}
+use Rattle.rows.specs.Orders.{orderCount}
 use Rattle.groups.specs.Distortion.{sumOfSquares, distortionOf, distortionAnswer}
 use Rattle.groups.proofs.RowDistortion.{distortion-quotient}
 use borrow.Author.Needs.{needs}

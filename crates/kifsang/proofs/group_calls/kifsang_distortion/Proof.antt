@@ -2,7 +2,7 @@
 use mathlib.Core.Path.{_≡_, refl}
 use borrow.Author.Needs.{needs}
 use borrow.Author.Tests.{eq-eqb, ne-eqb}
-use Rattle.groups.specs.Group.{orderCount}
+use Rattle.rows.specs.Orders.{orderCount}
 use Rattle.groups.specs.Distortion.{distortionOf, distortionAnswer}
 use Rattle.kifsang.specs.GroupCalls.{distortionCallRefusal, distortionCallValue}
 use Rattle.kifsang.proofs.Handed.{handed-answer}

@@ -3,7 +3,8 @@ use mathlib.Core.Path.{_≡_, refl, sym, _∙_}
 use mathlib.Core.Bool.{true, false}
 use borrow.Author.Needs.{needs}
 use borrow.Author.Tests.{eq-eqb, ne-eqb, not-true, not-false}
-use Rattle.groups.specs.Group.{orderCount, groupValuesAnswer}
+use Rattle.groups.specs.Group.{groupValuesAnswer}
+use Rattle.rows.specs.Orders.{orderCount}
 use Rattle.kifsang.specs.Kinds.{isKind, kindWith}
 use Rattle.kifsang.specs.GroupCalls.{rowCallRefusal, rowCallValues}
 use Rattle.kifsang.proofs.group_calls.kifsang_row.Statement.{statement}

@@ -2,7 +2,7 @@
 use mathlib.Core.Path.{refl}
 use borrow.Author.Needs.{needs}
 use borrow.Author.Tests.{eq-eqb, ne-eqb}
-use Rattle.groups.specs.Group.{orderCount}
+use Rattle.rows.specs.Orders.{orderCount}
 use Rattle.kifsang.specs.ListingCall.{listingCallRefusal, listingCallBytes, listingCallCount}
 use Rattle.kifsang.proofs.ListingReceived.{listing-received}
 use Rattle.kifsang.proofs.listing_call.kifsang_fill_listing.Statement.{statement}

@@ -2,7 +2,8 @@
 use mathlib.Core.Path.{refl}
 use borrow.Author.Needs.{needs}
 use borrow.Author.Tests.{eq-eqb, ne-eqb}
-use Rattle.observation.specs.Calls.{emptyRecord, refusedSystem, freshRefusal, freshAnswer}
+use Rattle.observation.specs.Calls.{emptyRecord, freshRefusal, freshAnswer}
+use Rattle.rows.specs.Systems.{refusedSystem}
 use Rattle.kifsang.specs.Words.{recordWords}
 use Rattle.kifsang.specs.RecordCalls.{freshCallRefusal, freshCallWords}
 use Rattle.kifsang.proofs.Handed.{handed-record}

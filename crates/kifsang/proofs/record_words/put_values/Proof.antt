@@ -7,7 +7,7 @@ use native.Mathlib.Omega.{arith}
 use borrow.Author.Needs.{needs}
 use lib.ListN.{length}
 use lib.Seq.{paste, paste-zero, paste-suc}
-use Rattle.groups.specs.Group.{orderCount}
+use Rattle.rows.specs.Orders.{orderCount}
 use Rattle.kifsang.proofs.record_words.put_values.Statement.{statement}
 use Rattle.kifsang.proofs.record_words.put_values.Tie as tie
 

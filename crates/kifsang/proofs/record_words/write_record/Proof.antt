@@ -6,7 +6,7 @@ use native.Mathlib.Omega.{arith}
 use borrow.Author.Needs.{needs}
 use lib.ListN.{length, set, length-set}
 use lib.Seq.{paste}
-use Rattle.groups.specs.Group.{orderCount}
+use Rattle.rows.specs.Orders.{orderCount}
 use Rattle.kifsang.specs.Words.{sumPlace, peakPlace, recordWords, wordsOf}
 use Rattle.kifsang.proofs.RecordWords.{parts-put, counts-put}
 use Rattle.kifsang.proofs.record_words.write_record.Statement.{statement}

@@ -8,7 +8,7 @@ use lib.ListN.{length, getD}
 use Rattle.algebra.specs.Lists.{tabulate}
 use Rattle.algebra.proofs.Lists.{tabulate-whole}
 use Rattle.algebra.proofs.Filling.{Filled, filled-more, filled-whole}
-use Rattle.groups.specs.Group.{orderCount}
+use Rattle.rows.specs.Orders.{orderCount}
 use Rattle.kifsang.proofs.words.put_row.Statement.{statement}
 use Rattle.kifsang.proofs.words.put_row.Tie as tie
 

@@ -3,7 +3,7 @@ use Prim.Native.Nat.{_≤_}
 use native.Mathlib.Omega.{arith}
 use borrow.Author.Needs.{needs}
 use Rattle.observation.specs.Book.{bookStep}
-use Rattle.observation.specs.Soundness.{largestValue}
+use Rattle.rows.specs.Rows.{largestValue}
 use Rattle.observation.specs.OrderBook.{reportedBook}
 use Rattle.observation.proofs.Smoothed.{smoothed-next-le}
 use Rattle.observation.proofs.book.book_step.Statement.{statement}

@@ -5,8 +5,8 @@ use native.Mathlib.Omega.{arith}
 use borrow.Author.Needs.{needs}
 use lib.ListN.{length, take, drop, length-drop}
 use lib.Seq.{length-take-le}
-use Rattle.groups.specs.Group.{orderCount}
-use Rattle.groups.proofs.FirstValues.{first-values-whole}
+use Rattle.rows.specs.Orders.{orderCount}
+use Rattle.rows.proofs.Rows.{firstValues-whole}
 use Rattle.observation.specs.CallList.{rowWords, rowAt}
 use Rattle.observation.proofs.call_list.row_at.Statement.{statement}
 use Rattle.observation.proofs.call_list.row_at.Tie as tie
@@ -51,7 +51,7 @@ returns c =
     let count : rowWords * start .args .i + rowWords - first ≡ orderCount = omega arith in
     let values : c .first-values .result ≡ take orderCount (drop first words) =
     rw count at (c .first-values .ensures) ∙
-    first-values-whole (take orderCount (drop first words)) (length-take-le orderCount (drop first words) long) in
+    firstValues-whole (take orderCount (drop first words)) (length-take-le orderCount (drop first words) long) in
     rw values
 
 pub row-at-spec : {M : Type 1} → statement M

@@ -2,7 +2,7 @@
 use borrow.Author.Needs.{needs}
 use mathlib.Core.Path.{_≡_, sym, _∙_}
 use mathlib.Core.Bool.{true, false}
-use Rattle.groups.specs.Group.{isSystem}
+use Rattle.rows.specs.Systems.{isSystem}
 use Rattle.observation.specs.Calls.{freshRefusal, freshAnswer}
 use Rattle.observation.proofs.calls.fresh_record.Statement.{statement}
 use Rattle.observation.proofs.calls.fresh_record.Tie as tie

@@ -7,7 +7,7 @@ use native.Mathlib.Omega.{arith}
 use borrow.Author.Needs.{needs}
 use lib.ListN.{length, getD}
 use Rattle.algebra.specs.Lists.{tabulate}
-use Rattle.groups.specs.Group.{orderCount}
+use Rattle.rows.specs.Orders.{orderCount}
 use Rattle.observation.specs.declared.Observation.{Observation}
 use Rattle.observation.specs.Book.{Book, bookStep}
 use Rattle.observation.specs.Smoothing.{reported}

@@ -6,8 +6,8 @@ use native.Mathlib.Omega.{arith}
 use borrow.Author.Needs.{needs}
 use lib.ListN.{length, getD, replicate}
 use Rattle.algebra.specs.Lists.{tabulate}
-use Rattle.groups.specs.Group.{orderCount}
-use Rattle.observation.specs.Soundness.{largestValue}
+use Rattle.rows.specs.Orders.{orderCount}
+use Rattle.rows.specs.Rows.{largestValue}
 use Rattle.algebra.proofs.Filling.{Filled, filled-more, filled-whole}
 use Rattle.observation.proofs.NoneAbove.{getD-le-of-none-above}
 use Rattle.algebra.proofs.Lists.{tabulate-whole}

@@ -6,7 +6,7 @@ use lib.Dec.{eqb, leb}
 use native.Mathlib.Omega.{arith}
 use borrow.Author.Needs.{needs}
 use borrow.Author.Tests.{not-true, not-false, eq-eqb, ne-eqb}
-use Rattle.groups.specs.Group.{orderCount}
+use Rattle.rows.specs.Orders.{orderCount}
 use Rattle.observation.specs.Soundness.{isSound}
 use Rattle.verdict.specs.Call.{firstJudged, largestScale, verdictRefusal}
 use Rattle.verdict.proofs.class_a.verdict_refusal.Statement.{statement}

@@ -1,0 +1,64 @@
+-- `lists::any_above` meets its contract. The loop's invariant: some number from `i` on is above the limit just where some number at all is.
+-- The measure is the count of numbers that are left. Assumes nothing.
+use mathlib.Core.Path.{_≡_, refl, sym, _∙_}
+use Prim.Native.Nat.{_≤_, _<_, _-_}
+use native.Mathlib.Omega.{arith}
+use borrow.Author.Needs.{needs}
+use borrow.Author.Tests.{lt-ltb, le-ltb}
+use lib.Dec.{ltb}
+use lib.ListN.{length, drop}
+use Rattle.algebra.specs.Lists.{anyOf}
+use Rattle.algebra.proofs.Lists.{anyOf-drop, anyOf-here, anyOf-end}
+use Rattle.lists.proofs.any_above.Statement.{statement}
+use Rattle.lists.proofs.any_above.Tie as tie
+
+abbrev Inv-loop : tie.InvT-loop
+Inv-loop numbers limit i₀ i =
+    (i ≤ length numbers) × (anyOf (ltb limit) (drop i numbers) ≡ anyOf (ltb limit) numbers)
+
+abbrev μ-loop : tie.MeasureT-loop
+μ-loop numbers limit i₀ i = length numbers - i
+
+loop-holds : tie.Need-loop-holds Inv-loop μ-loop
+loop-holds c = (omega arith, refl)
+
+mul-if1 : tie.Need-mul-if1 Inv-loop μ-loop
+mul-if1 c = search needs
+
+shared-slice-read-if1 : tie.Need-shared-slice-read-if1 Inv-loop μ-loop
+shared-slice-read-if1 c = search needs
+
+returns : tie.Need-returns Inv-loop μ-loop
+returns c =
+    let a = c .before .before .before .before .args in
+    let i = c .before .before .before .loop .i in
+    let inside : i < length (a .numbers .now) = omega arith in
+    sym (anyOf-here (ltb (a .limit)) (a .numbers .now) i 0 inside (lt-ltb _ _ (c .if1 .taken)))
+    ∙ c .before .before .before .loop .inv .1
+
+add-i : tie.Need-add-i Inv-loop μ-loop
+add-i c = search needs
+
+loop-less : tie.Need-loop-less Inv-loop μ-loop
+loop-less c = search needs
+
+loop-again : tie.Need-loop-again Inv-loop μ-loop
+loop-again c =
+    let a = c .before .before .before .before .args in
+    let i = c .before .before .before .loop .i in
+    let inside : i < length (a .numbers .now) = omega arith in (
+      omega arith,
+      anyOf-drop (ltb (a .limit)) (a .numbers .now) i 0 inside (le-ltb _ _ (c .if1 .left))
+          ∙ c .before .before .before .loop .inv .1,
+    )
+
+returns-2 : tie.Need-returns-2 Inv-loop μ-loop
+returns-2 c =
+    let a = c .before .before .args in
+    let end : c .before .loop .i ≡ length (a .numbers .now) = omega arith in
+    sym (anyOf-end (ltb (a .limit)) (a .numbers .now)) ∙ rw end at (c .before .loop .inv .1)
+
+pub any-above-spec : {M : Type 1} → statement M
+any-above-spec =
+    tie.close
+    (tie.spec Inv-loop μ-loop loop-holds mul-if1 shared-slice-read-if1 returns add-i loop-less loop-again returns-2)

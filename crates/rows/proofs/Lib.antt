@@ -1,0 +1,4 @@
+-- The laws of the vocabulary.
+pub mod Orders
+pub mod Systems
+pub mod Rows
