@@ -1,5 +1,4 @@
 -- A row that a book accepts has a known system, and a condition on the accepted calls of a list is carried to another one.
--- Assumes nothing.
 use mathlib.Core.Path.{_≡_, refl}
 use mathlib.Core.Bool.{Bool, true, false, cond}
 use mathlib.Core.List.{List, [], _∷_, map, map-id}

@@ -11,17 +11,16 @@ use lib.ListN.{getD}
 use Rattle.algebra.specs.Fraction.{Fraction, whole, _+ᶠ_, Side, lower, upper, Near}
 use Rattle.algebra.proofs.Fraction.{near-weaken, near-mix, near-whole-add, near-whole-maximum}
 use Rattle.observation.specs.Book.{Book, emptyBook, smoothedNext, bookStep}
-use Rattle.observation.specs.Smoothing.{newWeight, oldWeight, smoothedValue, reported}
+use Rattle.observation.specs.Smoothing.{newWeight, oldWeight, smoothedValue, reported, smoothedMargin}
 use Rattle.observation.specs.BookCalls.{accepts, EachAccepted, Fed, bookCall, bookAfter, ownValues}
-use Rattle.verdict.specs.Tests.{band}
 use Rattle.accuracy.specs.Distance.{groupMargin}
 use Rattle.accuracy.specs.ExactBook.{exact}
 
 pub record BookNear (side : Side) (book : Book reported) (exactBook : Book exact) : Type 0 where
   pub same-count : exactBook .count ≡ book .count
-  pub smoothed-near : Near side (whole (book .smoothed)) (exactBook .smoothed) band
-  pub sum-near : Near side (whole (book .sum)) (exactBook .sum) (book .count * band)
-  pub peak-near : Near side (whole (book .peak)) (exactBook .peak) band
+  pub smoothed-near : Near side (whole (book .smoothed)) (exactBook .smoothed) smoothedMargin
+  pub sum-near : Near side (whole (book .sum)) (exactBook .sum) (book .count * smoothedMargin)
+  pub peak-near : Near side (whole (book .peak)) (exactBook .peak) smoothedMargin
 
 module _ (side : Side) where
   near-whole : (s : ℕ) → Near side (whole s) (whole s) 0
@@ -43,11 +42,11 @@ module _ (side : Side) where
 
   -- one accepted value
   module _ (book : Book reported) (exactBook : Book exact) (value : ℕ) (fed : Fraction) (near : Near side (whole value) fed groupMargin) (before : BookNear side book exactBook) where
-    smoothed-next-near : Near side (whole (smoothedNext reported book value)) (smoothedNext exact exactBook fed) band
+    smoothed-next-near : Near side (whole (smoothedNext reported book value)) (smoothedNext exact exactBook fed) smoothedMargin
     unfolding smoothedNext smoothedValue
     smoothed-next-near = rw (before .same-count) (either (eqb (book .count) 0))
       where
-        either : (first : Bool) → Near side (whole (cond first value (smoothedValue value (book .smoothed)))) (cond first fed (exact .smooth fed (exactBook .smoothed))) band
+        either : (first : Bool) → Near side (whole (cond first value (smoothedValue value (book .smoothed)))) (cond first fed (exact .smooth fed (exactBook .smoothed))) smoothedMargin
         either true = near-weaken (lit≤ tt) near
         either false =
             near-mix newWeight oldWeight value (book .smoothed) (omega arith) (lit≤ tt) near (before .smoothed-near)

@@ -1,4 +1,4 @@
--- Demand 3: the distance of every group value, and the one claim about a list of calls. Assumes nothing.
+-- Demand 3: the distance of every group value, and the one claim about a list of calls.
 use mathlib.Core.Path.{_≡_}
 use mathlib.Core.Bool.{true}
 use mathlib.Core.List.{List}

@@ -1,6 +1,5 @@
 -- The distance of 7 units: a group value is within 7 units of the exact group, for every window in range, every kind, order and system.
 -- It is one fact over weights: each line of a group gives two places, its cosine sum and its sine sum, each within 3/4 of the exact one, and the norm bound does the rest.
--- Assumes nothing.
 use mathlib.Core.Path.{_≡_, refl}
 use mathlib.Core.Bool.{true, false}
 use mathlib.Core.List.{List, [], _∷_}
@@ -20,15 +19,15 @@ use Rattle.integers.proofs.Root.{root-law, lt-rootLimit}
 use Rattle.sine.specs.ExactSine.{denominator, exactSine, exactCosine}
 use Rattle.sine.proofs.ExactSine.{denominator-pos}
 use Rattle.sine.specs.Wave.{tableSine, tableCosine}
-use Rattle.spectrum.specs.Line as Line
+use Rattle.algebra.specs.Integers as Integers
 use Rattle.spectrum.specs.Line.{roundedSum, lineOf, linesOf}
-use Rattle.spectrum.specs.Exact.{exactSum}
+use Rattle.spectrum.specs.Exact.{exactSum, exactLine}
 use Rattle.spectrum.specs.Spectrum.{outOfRange}
 use Rattle.spectrum.proofs.Distance.{cosine-sum-near, sine-sum-near}
 use Rattle.spectrum.proofs.Lines.{length-linesOf, getD-linesOf, no-line-too-large}
 use Rattle.groups.specs.declared.Kind.{Kind}
 use Rattle.groups.specs.Weights.{Weighted, weightsOf, weightedSum}
-use Rattle.groups.specs.Exact.{exactLine, exactGroup, exactGroupNumerator}
+use Rattle.groups.specs.Exact.{exactGroup, exactGroupNumerator}
 use Rattle.groups.specs.Group.{lineAt, groupValue, groupRefusal, groupAnswer}
 use Rattle.rows.specs.Systems.{isSystem}
 use Rattle.rows.specs.Orders.{orderCount, isOrder}
@@ -59,12 +58,12 @@ module _ (window : List ℤ) where
   placesOf (x ∷ xs) = cosinePlace x ∷ sinePlace x ∷ placesOf xs
 
   squares-placesOf : (xs : List Weighted) → squares (placesOf xs) ≡ weightedSum (lineOf window) xs
-  unfolding placesOf cosinePlace sinePlace weightedSum lineOf Line.square sumOver
+  unfolding placesOf cosinePlace sinePlace weightedSum lineOf Integers.square sumOver
   squares-placesOf [] = refl
   squares-placesOf (x ∷ xs) = omega (arith, squares-placesOf xs)
 
   exactSquares-placesOf : (xs : List Weighted) → exactSquares (placesOf xs) ≡ weightedSum (exactLine window) xs
-  unfolding placesOf cosinePlace sinePlace weightedSum exactLine Line.square sumOver
+  unfolding placesOf cosinePlace sinePlace weightedSum exactLine Integers.square sumOver
   exactSquares-placesOf [] = refl
   exactSquares-placesOf (x ∷ xs) = omega (arith, exactSquares-placesOf xs)
 

@@ -12,21 +12,22 @@ use Rattle.refusals.specs.Numbers.{noRefusal}
 use Rattle.groups.specs.declared.Kind.{Kind}
 use Rattle.rows.specs.declared.Row.{Row}
 use Rattle.observation.specs.Book.{Book}
-use Rattle.observation.specs.Smoothing.{reported}
+use Rattle.observation.specs.Smoothing.{reported, smoothedMargin}
 use Rattle.observation.specs.Calls.{bookAt}
 use Rattle.verdict.specs.declared.Verdict.{Verdict}
 use Rattle.verdict.specs.declared.Verdict.the-variants.{Within, Close, Over}
-use Rattle.verdict.specs.Tests.{band, limitInUnits, peakLimitInUnits}
-use Rattle.verdict.specs.Call.{average, averageOf, peakOf, verdictRefusal, verdictOf}
+use Rattle.verdict.specs.Tests.{limitInUnits, peakLimitInUnits}
+use Rattle.verdict.specs.Call.{verdictRefusal, verdictOf}
+use Rattle.observation.specs.Average.{average, averageOf, peakOf}
 use Rattle.verdict.proofs.Verdicts.{Says, verdict-says, verdict-order, accepted-given}
 use Rattle.accuracy.specs.ExactBook.{exact}
 use Rattle.accuracy.specs.Claim.{ExactBook, UBook, after, reportedBook, state, Keeps, GivenVerdict}
 use Rattle.accuracy.proofs.Books.{BookNear}
 
-average-near : {side : Side} (book : Book reported) (exactBook : Book exact) → BookNear side book exactBook → Near side (average (whole (book .sum)) (book .count)) (average (exactBook .sum) (exactBook .count)) band
+average-near : {side : Side} (book : Book reported) (exactBook : Book exact) → BookNear side book exactBook → Near side (average (whole (book .sum)) (book .count)) (average (exactBook .sum) (exactBook .count)) smoothedMargin
 average-near book exactBook near =
     rw (near .same-count)
-    (near-divide (max (book .count) 1) band _ (near-weaken (mul-le-mul-right band (omega arith)) (near .sum-near)))
+    (near-divide (max (book .count) 1) smoothedMargin _ (near-weaken (mul-le-mul-right smoothedMargin (omega arith)) (near .sum-near)))
 
 -- "every" stands inside each side of over: one u book that is not over on the average shows that every u book is over on the peak
 over-every-peak : (kind : Kind) (system : ℕ) (rows : List Row) (order scale h : ℕ) → Keeps kind system rows order scale (Over h) → (book other : UBook kind system rows order) → average (state kind system rows book .sum) (state kind system rows book .count) ≤ᶠ limitInUnits order scale → peakLimitInUnits order scale <ᶠ state kind system rows other .peak

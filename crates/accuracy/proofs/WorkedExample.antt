@@ -1,5 +1,5 @@
 -- A worked list of calls, with a refused one between two accepted ones. It meets the hypotheses of demand 3 for every kind and any two windows in range.
--- Of the pulse's harmonic groups, document 01's 8944, the third order is then judged over, close and within at K = 3883, 3884 .. 3893 and 3894. Assumes nothing.
+-- Of the pulse's harmonic groups, document 01's 8944, the third order is then judged over, close and within at K = 3883, 3884 .. 3893 and 3894.
 use mathlib.Core.Path.{_≡_, refl, sym, ap, subst, fun-ext, _∙_}
 use mathlib.Core.Bool.{true}
 use mathlib.Core.List.{List, [], _∷_}
@@ -30,7 +30,8 @@ use Rattle.verdict.specs.declared.Verdict.{Verdict}
 use Rattle.verdict.specs.declared.Verdict.the-variants.{Within, Close, Over}
 use Rattle.verdict.specs.Limit.{ownFigures, figureIn, limitOf, overOrder}
 use Rattle.verdict.specs.Tests.{limitInUnits, peakLimitInUnits, isWithin, isOver}
-use Rattle.verdict.specs.Call.{average, averageOf, peakOf, combined, verdictOf}
+use Rattle.verdict.specs.Call.{combined, verdictOf}
+use Rattle.observation.specs.Average.{average, averageOf, peakOf}
 use Rattle.accuracy.specs.Distance.{InRange, valueOf}
 use Rattle.accuracy.specs.Claim.{Worked, WorkedList, after, reportedBook}
 use Rattle.accuracy.proofs.Demand3.{books-kept}

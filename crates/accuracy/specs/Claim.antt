@@ -16,15 +16,16 @@ use Rattle.groups.specs.Exact.{exactGroup}
 use Rattle.rows.specs.declared.Row.{Row}
 use Rattle.observation.specs.declared.Observation.{Observation}
 use Rattle.observation.specs.Book.{Book, emptyBook}
-use Rattle.observation.specs.Smoothing.{reported}
+use Rattle.observation.specs.Smoothing.{reported, smoothedMargin}
 use Rattle.observation.specs.Calls.{freshAnswer, bookAt}
 use Rattle.observation.specs.CallList.{recordAfter}
 use Rattle.observation.specs.BookCalls.{EachAccepted, Fed, bookAfter, ownValues}
 use Rattle.verdict.specs.declared.Verdict.{Verdict}
 use Rattle.verdict.specs.declared.Verdict.the-variants.{Within, Close, Over}
 use Rattle.verdict.specs.declared.Answered.the-variants.{Given}
-use Rattle.verdict.specs.Tests.{band, limitInUnits, peakLimitInUnits, Touches}
-use Rattle.verdict.specs.Call.{average, verdictRefusal, verdictAnswer, orderNumber}
+use Rattle.verdict.specs.Tests.{limitInUnits, peakLimitInUnits, Touches}
+use Rattle.verdict.specs.Call.{verdictRefusal, verdictAnswer, orderNumber}
+use Rattle.observation.specs.Average.{average}
 use Rattle.accuracy.specs.Distance.{InRange, GroupsNear}
 use Rattle.accuracy.specs.ExactBook.{exact}
 
@@ -97,9 +98,9 @@ module _ (kind : Kind) (system : ℕ) (rows : List Row) where
     pub same-books : (order : ℕ) → 0 < order → order ≤ orderCount → bookAt after (order - 1) ≡ reportedBook order
     -- smoothed is at least the smoothing of the l less 12, and at most that of the u plus 12
     pub smoothed-low :
-        (order : ℕ) → 0 < order → order ≤ orderCount → (book : LBook order) → state book .smoothed ≤ᶠ whole (reportedBook order .smoothed + band)
+        (order : ℕ) → 0 < order → order ≤ orderCount → (book : LBook order) → state book .smoothed ≤ᶠ whole (reportedBook order .smoothed + smoothedMargin)
     pub smoothed-high :
-        (order : ℕ) → 0 < order → order ≤ orderCount → (book : UBook order) → whole (reportedBook order .smoothed) ≤ᶠ state book .smoothed +ᶠ whole band
+        (order : ℕ) → 0 < order → order ≤ orderCount → (book : UBook order) → whole (reportedBook order .smoothed) ≤ᶠ state book .smoothed +ᶠ whole smoothedMargin
     -- for every order and K that is not refused one of the three verdicts is given and keeps its claim
     pub verdicts : (order scale : ℕ) → verdictRefusal after order scale ≡ noRefusal → GivenVerdict order scale
 

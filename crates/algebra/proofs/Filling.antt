@@ -1,4 +1,4 @@
--- A list that is filled from the front with the entries of `tabulate`, as a loop over its places meets it. Assumes nothing.
+-- A list that is filled from the front with the entries of `tabulate`, as a loop over its places meets it.
 use mathlib.Core.Path.{_≡_, _∙_}
 use mathlib.Core.List.{List, _++_}
 use Prim.Native.Nat.{ℕ, _+_, _<_}

@@ -1,6 +1,5 @@
 -- The ring laws of ℤ that lib.IntN leaves out, and the laws of the absolute value that bounds need.
 -- A bound on an integer is stated on its absolute value, in ℕ, where the arithmetic tactic reads it.
--- Assumes nothing.
 use mathlib.Core.Path.{_≡_, refl, sym, _∙_, ap}
 use Prim.Native.Nat.{ℕ, zero, suc, _+_, _*_, _-_, _≤_}
 use mathlib.Core.Bool.{Bool, true, false, cond}

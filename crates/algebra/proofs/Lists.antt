@@ -1,5 +1,4 @@
 -- Laws of `tabulate` and `anyOf`, in the form that a loop over a list's places uses: what is filled is the front of the definition's list, and the test over the rest is the test over the whole.
--- Assumes nothing.
 use mathlib.Core.Path.{_≡_, refl, sym, _∙_}
 use mathlib.Core.Logic.{⊎-elim}
 use mathlib.Core.Bool.{Bool, true, false, _||_}

@@ -1,7 +1,7 @@
 -- The norm bound: a vector of whole numbers that is near an exact one at each place has nearly the same norm, the root of the
 -- weighted sum of squares. With P a bound on the norm of the differences and R the whole part of the root, the exact norm is within
 -- P + 1 of R. All is stated over squares and whole numbers: the exact norm need not be a fraction.
--- It holds for any weights, any vectors, any denominator and any divisor c of the sum. Assumes nothing.
+-- It holds for any weights, any vectors, any denominator and any divisor c of the sum.
 use mathlib.Core.Path.{_≡_}
 use mathlib.Core.List.{List, [], _∷_}
 use Prim.Native.Nat.{ℕ, _+_, _*_, _-_, _≤_, _<_}

@@ -1,7 +1,7 @@
 -- Identities of ℤ as a commutative ring, proved by computing.
 -- An expression over variables is brought to a sum of monomials, the monomials in order and each once; two expressions are equal
 -- at every choice of the variables if every coefficient of their difference is 0. The use: `ring left right tt (a ∷ b ∷ [])`,
--- where variable 0 is a and variable 1 is b. A false identity leaves a coefficient, and then `tt` is refused. Assumes nothing.
+-- where variable 0 is a and variable 1 is b. A false identity leaves a coefficient, and then `tt` is refused.
 use mathlib.Core.Path.{_≡_, refl, sym, _∙_, ap, ap₂}
 use mathlib.Core.Bool.{Bool, true, false, cond}
 use mathlib.Core.List.{List, [], _∷_}

@@ -1,6 +1,5 @@
 -- Cauchy-Schwarz over lists with weights, and the triangle step that follows from it, stated over squares so that no root is taken.
 -- Both are shown for absolute values, in ℕ.
--- Assumes nothing.
 use mathlib.Core.Path.{_≡_, refl}
 use mathlib.Core.List.{List, [], _∷_, _++_}
 use Prim.Native.Nat.{ℕ, zero, suc, _+_, _*_, _≤_, _<_}

@@ -1,4 +1,5 @@
 -- The definitions of the shared mathematics. Their theorems stand in proofs/.
+pub mod Integers
 pub mod Rounding
 pub mod Fraction
 pub mod Sums

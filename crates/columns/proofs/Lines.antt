@@ -10,12 +10,12 @@ use lib.ListN.{length, getD, length-append}
 use Rattle.rows.specs.Orders.{orderCount}
 use Rattle.columns.specs.Text.{bytesOf, rightJustified}
 use Rattle.columns.specs.Column.{numberText, fitsColumn, columnText}
-use Rattle.columns.specs.Listing.{orderWidth, valueWidth, lineLength, header, orderLine, leftOut, orderText, ordersText, listingText}
+use Rattle.columns.specs.Listing.{orderWidth, valueWidth, textLineLength, header, orderLine, leftOut, orderText, ordersText, listingText}
 use Rattle.columns.specs.Calls.{listingRoom}
 use Rattle.columns.proofs.Decimal.{length-le}
 use Rattle.columns.proofs.Column.{length-of-text}
 
-pub header-length : length header ≡ lineLength
+pub header-length : length header ≡ textLineLength
 unfolding header bytesOf rightJustified
 header-length = refl
 
@@ -31,7 +31,7 @@ pub value-fits : (n : ℕ) → n < 2 ^ 32 → fitsColumn valueWidth (pos n) ≡ 
 value-fits n small = fits-of-lt valueWidth n (omega arith) (omega arith)
 
 module _ (h group subgroup smoothed : ℕ) (order : h ≤ orderCount) (g : group < 2 ^ 32) (s : subgroup < 2 ^ 32) (m : smoothed < 2 ^ 32) where
-  pub length-line : length (orderLine h group subgroup smoothed) ≡ lineLength
+  pub length-line : length (orderLine h group subgroup smoothed) ≡ textLineLength
   unfolding orderLine
   length-line =
       let value-length : (n : ℕ) → n < 2 ^ 32 → length (columnText valueWidth (pos n)) ≡ valueWidth =
@@ -39,11 +39,11 @@ module _ (h group subgroup smoothed : ℕ) (order : h ≤ orderCount) (g : group
       let order-length : length (columnText orderWidth (pos h)) ≡ orderWidth = length-of-text orderWidth (pos h) (order-fits h order) in
       simp length-append (omega (arith, order-length, value-length group g, value-length subgroup s, value-length smoothed m))
 
-  pub length-order-le : length (orderText h group subgroup smoothed) ≤ lineLength
+  pub length-order-le : length (orderText h group subgroup smoothed) ≤ textLineLength
   unfolding orderText
   length-order-le = by-case (leftOut h group subgroup smoothed)
     where
-      by-case : (left : Bool) → length (cond left [] (orderLine h group subgroup smoothed)) ≤ lineLength
+      by-case : (left : Bool) → length (cond left [] (orderLine h group subgroup smoothed)) ≤ textLineLength
       by-case true = omega arith
       by-case false = omega (arith, length-line)
 
@@ -52,7 +52,7 @@ abbrev pub Values : List ℕ → Type 0
 Values values = (i : ℕ) → getD values i 0 < 2 ^ 32
 
 module _ (group subgroup smoothed : List ℕ) (g : Values group) (s : Values subgroup) (m : Values smoothed) where
-  pub length-orders-le : (n : ℕ) → n ≤ orderCount → length (ordersText n group subgroup smoothed) ≤ lineLength * n
+  pub length-orders-le : (n : ℕ) → n ≤ orderCount → length (ordersText n group subgroup smoothed) ≤ textLineLength * n
   unfolding ordersText
   length-orders-le zero h = omega arith
   length-orders-le (suc n) h =
@@ -64,7 +64,7 @@ module _ (group subgroup smoothed : List ℕ) (g : Values group) (s : Values sub
   listing-length-le = rw length-append (omega (arith, header-length, length-orders-le orderCount (omega arith)))
 
   -- order 1 is never left out
-  length-orders-ge : (n : ℕ) → lineLength ≤ length (ordersText (suc n) group subgroup smoothed)
+  length-orders-ge : (n : ℕ) → textLineLength ≤ length (ordersText (suc n) group subgroup smoothed)
   unfolding ordersText orderText leftOut
   length-orders-ge zero =
       let first = length-line 1 (getD group 0 0) (getD subgroup 0 0) (getD smoothed 0 0) (omega arith) (g 0) (s 0) (m 0) in

@@ -14,7 +14,7 @@ use Rattle.refusals.specs.Answers.{answer, unlessRefused}
 use Rattle.columns.specs.Text.{Put}
 use Rattle.columns.specs.Column.{numberText, fitsColumn}
 use Rattle.columns.specs.Listing.{listingText}
-use Rattle.columns.specs.Calls.{writeFault, listingRoom, listingFault, listingWritten}
+use Rattle.columns.specs.Calls.{writeRefusal, listingRoom, listingRefusal, listingExit}
 use Rattle.columns.proofs.Puts.{put-front}
 
 -- a buffer after a call that works, and after one that is refused
@@ -26,20 +26,20 @@ module _ (fault : ℕ) (worked unchanged : List ℕ) where
   is-unchanged e = rw (ne-eqb fault noRefusal e)
 
 module _ (n w : ℕ) (buffer : List ℕ) (number : ℤ) where
-  pub write-wrong-length : (length buffer ≡ n → ⊥) → wrongBufferLength ≡ writeFault n w buffer number
-  unfolding writeFault
+  pub write-wrong-length : (length buffer ≡ n → ⊥) → wrongBufferLength ≡ writeRefusal n w buffer number
+  unfolding writeRefusal
   write-wrong-length h = rw (ne-eqb (length buffer) n h)
 
-  pub write-too-wide : length buffer ≡ n → w < length (numberText number) → notAColumn ≡ writeFault n w buffer number
-  unfolding writeFault fitsColumn
+  pub write-too-wide : length buffer ≡ n → w < length (numberText number) → notAColumn ≡ writeRefusal n w buffer number
+  unfolding writeRefusal fitsColumn
   write-too-wide l h = rw (eq-eqb (length buffer) n l, lt-leb (length (numberText number)) w h)
 
-  pub write-fits : length buffer ≡ n → length (numberText number) ≤ w → noRefusal ≡ writeFault n w buffer number
-  unfolding writeFault fitsColumn
+  pub write-fits : length buffer ≡ n → length (numberText number) ≤ w → noRefusal ≡ writeRefusal n w buffer number
+  unfolding writeRefusal fitsColumn
   write-fits l h = rw (eq-eqb (length buffer) n l, le-leb (length (numberText number)) w h)
 
   -- where nothing is refused, the buffer has the length, and the number fits
-  pub no-fault : writeFault n w buffer number ≡ noRefusal → (length buffer ≡ n) × (fitsColumn w number ≡ true)
+  pub no-fault : writeRefusal n w buffer number ≡ noRefusal → (length buffer ≡ n) × (fitsColumn w number ≡ true)
   unfolding fitsColumn
   no-fault e = by-length (ℕ-discrete (length buffer) n)
     where
@@ -53,16 +53,16 @@ module _ (n w : ℕ) (buffer : List ℕ) (number : ℤ) where
 
 module _ (buffer group subgroup smoothed : List ℕ) where
   pub listing-refused : length buffer < listingRoom
-      → (answer wrongBufferLength 0 ≡ answer (listingFault buffer) (length (listingText group subgroup smoothed)))
-      × (buffer ≡ listingWritten buffer group subgroup smoothed)
-  unfolding listingFault listingWritten
+      → (answer wrongBufferLength 0 ≡ answer (listingRefusal buffer) (length (listingText group subgroup smoothed)))
+      × (buffer ≡ listingExit buffer group subgroup smoothed)
+  unfolding listingRefusal listingExit
   listing-refused short = let e = lt-ltb (length buffer) listingRoom short in (rw e, rw e)
 
   pub listing-done : (count : ℕ) (after : List ℕ) → listingRoom ≤ length buffer → count ≤ listingRoom
       → Put buffer 0 (listingText group subgroup smoothed) count after
-      → (answer noRefusal count ≡ answer (listingFault buffer) (length (listingText group subgroup smoothed)))
-      × (after ≡ listingWritten buffer group subgroup smoothed)
-  unfolding listingFault listingWritten
+      → (answer noRefusal count ≡ answer (listingRefusal buffer) (length (listingText group subgroup smoothed)))
+      × (after ≡ listingExit buffer group subgroup smoothed)
+  unfolding listingRefusal listingExit
   listing-done count after room few put =
       let e = le-ltb (length buffer) listingRoom room in
       let text = listingText group subgroup smoothed in

@@ -7,8 +7,8 @@ use Prim.Native.Nat.{ℕ}
 use lib.IntN.{ℤ, pos, negsuc}
 use Rattle.columns.specs.Text.{bytesOf, rightJustified}
 use Rattle.columns.specs.Column.{decimalWithin, decimalText, numberText, fitsColumn, columnText, isDigit, areDigits, isWhole, placeValue, wholeNumber, negativeNumber, signedNumber, afterBlanks, columnNumber}
-use Rattle.columns.specs.Calls.{columnReadOf, writeFault, columnWriteFault, columnWritten}
-use Rattle.columns.specs.declared.Number.{Number}
+use Rattle.columns.specs.Calls.{columnReadAnswer, writeRefusal, columnWriteRefusal, columnWriteExit}
+use Rattle.columns.specs.declared.NumberAnswer.{NumberAnswer}
 
 record Case : Type 0 where
   text : String
@@ -37,13 +37,13 @@ cases =
     ∷ []
 
 -- what is answered: a number, or 13 with 0
-abbrev answered : Option ℤ → Number
+abbrev answered : Option ℤ → NumberAnswer
 answered none = record { refusal = 13; value = pos 0 }
 answered (some z) = record { refusal = 0; value = z }
 
 -- each text reads as its number, or is refused
-readings : map (λ c. columnReadOf (bytesOf (c .text))) cases ≡ map (λ c. answered (c .number)) cases
-unfolding bytesOf columnReadOf columnNumber signedNumber afterBlanks negativeNumber wholeNumber isWhole isDigit placeValue areDigits
+readings : map (λ c. columnReadAnswer (bytesOf (c .text))) cases ≡ map (λ c. answered (c .number)) cases
+unfolding bytesOf columnReadAnswer columnNumber signedNumber afterBlanks negativeNumber wholeNumber isWhole isDigit placeValue areDigits
 readings = refl
 
 -- and each number has its text
@@ -72,10 +72,10 @@ writings =
     ∷ record { buffer = "?????????"; number = pos 100000000; refusal = 14; after = "?????????" }
     ∷ []
 
-faults : map (λ c. columnWriteFault (bytesOf (c .buffer)) (c .number)) writings ≡ map (λ c. c .refusal) writings
-unfolding bytesOf writeFault fitsColumn numberText decimalText decimalWithin
+faults : map (λ c. columnWriteRefusal (bytesOf (c .buffer)) (c .number)) writings ≡ map (λ c. c .refusal) writings
+unfolding bytesOf writeRefusal fitsColumn numberText decimalText decimalWithin
 faults = refl
 
-written : map (λ c. columnWritten (bytesOf (c .buffer)) (c .number)) writings ≡ map (λ c. bytesOf (c .after)) writings
-unfolding bytesOf writeFault fitsColumn columnText rightJustified numberText decimalText decimalWithin
+written : map (λ c. columnWriteExit (bytesOf (c .buffer)) (c .number)) writings ≡ map (λ c. bytesOf (c .after)) writings
+unfolding bytesOf writeRefusal fitsColumn columnText rightJustified numberText decimalText decimalWithin
 written = refl

@@ -8,7 +8,7 @@ use Rattle.refusals.specs.declared.Answer.{Answer}
 use Rattle.columns.specs.Text.{bytesOf, rightJustified}
 use Rattle.columns.specs.Column.{decimalWithin, decimalText, numberText, fitsColumn, columnText}
 use Rattle.columns.specs.Listing.{header, orderLine, leftOut, orderText, ordersText, listingText, refusalLine}
-use Rattle.columns.specs.Calls.{writeFault, refusalLineFault, refusalLineWritten, listingFault, listingAnswer, listingWritten}
+use Rattle.columns.specs.Calls.{writeRefusal, refusalLineRefusal, refusalLineExit, listingRefusal, listingAnswer, listingExit}
 
 abbrev zerosText : List ℕ
 zerosText =
@@ -42,12 +42,12 @@ writings =
     ∷ record { buffer = "????????????"; number = 1000; refusal = 14; after = "????????????" }
     ∷ []
 
-writings-refusals : map (λ c. refusalLineFault (bytesOf (c .buffer)) (c .number)) writings ≡ map (λ c. c .refusal) writings
-unfolding bytesOf writeFault fitsColumn numberText decimalText decimalWithin
+writings-refusals : map (λ c. refusalLineRefusal (bytesOf (c .buffer)) (c .number)) writings ≡ map (λ c. c .refusal) writings
+unfolding bytesOf writeRefusal fitsColumn numberText decimalText decimalWithin
 writings-refusals = refl
 
-writings-written : map (λ c. refusalLineWritten (bytesOf (c .buffer)) (c .number)) writings ≡ map (λ c. bytesOf (c .after)) writings
-unfolding bytesOf writeFault fitsColumn refusalLine columnText rightJustified numberText decimalText decimalWithin
+writings-written : map (λ c. refusalLineExit (bytesOf (c .buffer)) (c .number)) writings ≡ map (λ c. bytesOf (c .after)) writings
+unfolding bytesOf writeRefusal fitsColumn refusalLine columnText rightJustified numberText decimalText decimalWithin
 writings-written = refl
 
 -- a listing of zeros: so many bytes of a buffer, the refusal with the count of bytes written, and the buffer afterwards
@@ -74,10 +74,10 @@ rooms =
 
 rooms-answered : map (λ c. listingAnswer (marks (c .bytes)) (replicate 40 0) (replicate 40 0) (replicate 40 0)) rooms
     ≡ map (λ c. c .answered) rooms
-unfolding listingFault listingText ordersText orderText leftOut orderLine header columnText rightJustified numberText decimalText decimalWithin bytesOf
+unfolding listingRefusal listingText ordersText orderText leftOut orderLine header columnText rightJustified numberText decimalText decimalWithin bytesOf
 rooms-answered = refl
 
-rooms-written : map (λ c. listingWritten (marks (c .bytes)) (replicate 40 0) (replicate 40 0) (replicate 40 0)) rooms
+rooms-written : map (λ c. listingExit (marks (c .bytes)) (replicate 40 0) (replicate 40 0) (replicate 40 0)) rooms
     ≡ map (λ c. c .after) rooms
-unfolding listingFault listingWritten listingText ordersText orderText leftOut orderLine header columnText rightJustified numberText decimalText decimalWithin bytesOf
+unfolding listingRefusal listingExit listingText ordersText orderText leftOut orderLine header columnText rightJustified numberText decimalText decimalWithin bytesOf
 rooms-written = refl

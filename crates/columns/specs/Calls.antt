@@ -11,7 +11,7 @@ use Rattle.refusals.specs.Answers.{firstFault, unlessRefused, answer}
 use Rattle.refusals.specs.declared.Answer.{Answer}
 use Rattle.columns.specs.Column.{columnText, columnNumber, fitsColumn}
 use Rattle.columns.specs.Listing.{listingText, refusalWidth, refusalLineLength, refusalLine}
-use Rattle.columns.specs.declared.Number.{Number}
+use Rattle.columns.specs.declared.NumberAnswer.{NumberAnswer}
 
 -- the width of a column that is read or written alone
 abbrev pub columnWidth : ℕ
@@ -26,47 +26,47 @@ abbrev pub widestRead : ℕ
 widestRead = 18
 
 -- a number, or the refusal of what is none
-abbrev pub readingOf : Option ℤ → Number
+abbrev pub readingOf : Option ℤ → NumberAnswer
 readingOf none = record { refusal = notAColumn; value = pos 0 }
 readingOf (some z) = record { refusal = noRefusal; value = z }
 
 -- "13 text not 8 bytes of the form"
-unfoldable pub columnReadOf : List ℕ → Number
-columnReadOf text = readingOf (cond (eqb (length text) columnWidth) (columnNumber text) none)
+unfoldable pub columnReadAnswer : List ℕ → NumberAnswer
+columnReadAnswer text = readingOf (cond (eqb (length text) columnWidth) (columnNumber text) none)
 
 -- "14 buffer not 8 bytes; 13 number wider than 8", for a text of n bytes that has a column of w bytes
-unfoldable pub writeFault : ℕ → ℕ → List ℕ → ℤ → ℕ
-writeFault n w buffer number =
+unfoldable pub writeRefusal : ℕ → ℕ → List ℕ → ℤ → ℕ
+writeRefusal n w buffer number =
     firstFault
     ((not (eqb (length buffer) n), wrongBufferLength) ∷ (not (fitsColumn w number), notAColumn) ∷ [])
 
-abbrev pub columnWriteFault : List ℕ → ℤ → ℕ
-columnWriteFault buffer number = writeFault columnWidth columnWidth buffer number
+abbrev pub columnWriteRefusal : List ℕ → ℤ → ℕ
+columnWriteRefusal buffer number = writeRefusal columnWidth columnWidth buffer number
 
 -- what the buffer holds after a column is written
-abbrev pub columnWritten : List ℕ → ℤ → List ℕ
-columnWritten buffer number =
-    unlessRefused (columnWriteFault buffer number) (columnText columnWidth number) buffer
+abbrev pub columnWriteExit : List ℕ → ℤ → List ℕ
+columnWriteExit buffer number =
+    unlessRefused (columnWriteRefusal buffer number) (columnText columnWidth number) buffer
 
 -- the same of the line for a refusal
-abbrev pub refusalLineFault : List ℕ → ℕ → ℕ
-refusalLineFault buffer refusal = writeFault refusalLineLength refusalWidth buffer (pos refusal)
+abbrev pub refusalLineRefusal : List ℕ → ℕ → ℕ
+refusalLineRefusal buffer refusal = writeRefusal refusalLineLength refusalWidth buffer (pos refusal)
 
-abbrev pub refusalLineWritten : List ℕ → ℕ → List ℕ
-refusalLineWritten buffer refusal =
-    unlessRefused (refusalLineFault buffer refusal) (refusalLine refusal) buffer
+abbrev pub refusalLineExit : List ℕ → ℕ → List ℕ
+refusalLineExit buffer refusal =
+    unlessRefused (refusalLineRefusal buffer refusal) (refusalLine refusal) buffer
 
 -- "14 buffer shorter than 1,640 bytes"
-unfoldable pub listingFault : List ℕ → ℕ
-listingFault buffer = firstFault ((ltb (length buffer) listingRoom, wrongBufferLength) ∷ [])
+unfoldable pub listingRefusal : List ℕ → ℕ
+listingRefusal buffer = firstFault ((ltb (length buffer) listingRoom, wrongBufferLength) ∷ [])
 
 -- the count of bytes written
 abbrev pub listingAnswer : List ℕ → List ℕ → List ℕ → List ℕ → Answer
 listingAnswer buffer group subgroup smoothed =
-    answer (listingFault buffer) (length (listingText group subgroup smoothed))
+    answer (listingRefusal buffer) (length (listingText group subgroup smoothed))
 
 -- what the buffer holds after a listing: "bytes after them stay"
-unfoldable pub listingWritten : List ℕ → List ℕ → List ℕ → List ℕ → List ℕ
-listingWritten buffer group subgroup smoothed =
+unfoldable pub listingExit : List ℕ → List ℕ → List ℕ → List ℕ → List ℕ
+listingExit buffer group subgroup smoothed =
     let text = listingText group subgroup smoothed in
-    unlessRefused (listingFault buffer) (text ++ drop (length text) buffer) buffer
+    unlessRefused (listingRefusal buffer) (text ++ drop (length text) buffer) buffer

@@ -17,8 +17,8 @@ abbrev pub valueWidth : ℕ
 valueWidth = 12
 
 -- the columns of a line and its newline
-abbrev pub lineLength : ℕ
-lineLength = orderWidth + 3 * valueWidth + 1
+abbrev pub textLineLength : ℕ
+textLineLength = orderWidth + 3 * valueWidth + 1
 
 -- "each name right-justified in its column"
 unfoldable pub header : List ℕ

@@ -3,10 +3,10 @@
 use crate::NEWLINE;
 use crate::writing::fill_column;
 use crate::writing::write_fault;
-use rows::ORDER_COUNT;
 use refusals::Answer;
 use refusals::NO_REFUSAL;
 use refusals::WRONG_BUFFER_LENGTH;
+use rows::ORDER_COUNT;
 ghost use mathlib.Core.Bool.{true};
 ghost use mathlib.Core.Path.{_≡_};
 ghost use Prim.Native.Nat.{_+_, _*_, _^_, _≤_, _<_};
@@ -15,8 +15,8 @@ ghost use lib.ListN.{length};
 ghost use Rattle.rows.specs.Orders.{orderCount};
 ghost use Rattle.columns.specs.Text.{Put};
 ghost use Rattle.columns.specs.Column.{fitsColumn, columnText};
-ghost use Rattle.columns.specs.Listing.{valueWidth, lineLength, orderLine, leftOut, orderText, ordersText, refusalWidth, refusalLineLength, refusalLine};
-ghost use Rattle.columns.specs.Calls.{listingAnswer, listingWritten, refusalLineFault, refusalLineWritten};
+ghost use Rattle.columns.specs.Listing.{valueWidth, textLineLength, orderLine, leftOut, orderText, ordersText, refusalWidth, refusalLineLength, refusalLine};
+ghost use Rattle.columns.specs.Calls.{listingAnswer, listingExit, refusalLineRefusal, refusalLineExit};
 
 // The width of an order's column, and of its values' columns.
 const ORDER_WIDTH: usize = 3;
@@ -39,7 +39,7 @@ pub fn fill_listing(
     buffer: &mut [u8],
 ) -> Answer
     ensures { λ r. ⌜ r ≡ listingAnswer (now (buffer .entry)) (now (group .entry)) (now (subgroup .entry)) (now (smoothed .entry)) ⌝ }
-    ensures { λ _. ⌜ now (buffer .exit) ≡ listingWritten (now (buffer .entry)) (now (group .entry)) (now (subgroup .entry)) (now (smoothed .entry)) ⌝ }
+    ensures { λ _. ⌜ now (buffer .exit) ≡ listingExit (now (buffer .entry)) (now (group .entry)) (now (subgroup .entry)) (now (smoothed .entry)) ⌝ }
 {
     if buffer.len() < LISTING_ROOM {
         return Answer {
@@ -58,8 +58,8 @@ pub fn fill_listing(
 // Fills a buffer of 11 bytes with the line for a refusal, and answers what refuses that itself, or
 // NO_REFUSAL.
 pub fn fill_refusal_line(refusal: u32, buffer: &mut [u8]) -> u32
-    ensures { λ r. ⌜ r ≡ refusalLineFault (now (buffer .entry)) refusal ⌝ }
-    ensures { λ _. ⌜ now (buffer .exit) ≡ refusalLineWritten (now (buffer .entry)) refusal ⌝ }
+    ensures { λ r. ⌜ r ≡ refusalLineRefusal (now (buffer .entry)) refusal ⌝ }
+    ensures { λ _. ⌜ now (buffer .exit) ≡ refusalLineExit (now (buffer .entry)) refusal ⌝ }
 {
     let fault = write_fault(REFUSAL_LINE_LENGTH, REFUSAL_WIDTH, buffer, refusal as i64);
     if fault == NO_REFUSAL {
@@ -86,9 +86,9 @@ fn put_orders(
     subgroup: &[u32; ORDER_COUNT],
     smoothed: &[u32; ORDER_COUNT],
 ) -> usize
-    requires { ⌜ start + lineLength * orderCount ≤ length (now buffer) ⌝ }
+    requires { ⌜ start + textLineLength * orderCount ≤ length (now buffer) ⌝ }
     ensures { λ r. ⌜ Put (now (buffer .entry)) start (ordersText orderCount (now (group .entry)) (now (subgroup .entry)) (now (smoothed .entry))) r (now (buffer .exit)) ⌝ }
-    ensures { λ r. ⌜ r ≤ start + lineLength * orderCount ⌝ }
+    ensures { λ r. ⌜ r ≤ start + textLineLength * orderCount ⌝ }
 {
     let mut at = start;
     let mut done = 0;
@@ -116,9 +116,9 @@ fn put_order(
     smoothed: u32,
 ) -> usize
     requires { ⌜ order ≤ orderCount ⌝ }
-    requires { ⌜ at + lineLength ≤ length (now buffer) ⌝ }
+    requires { ⌜ at + textLineLength ≤ length (now buffer) ⌝ }
     ensures { λ r. ⌜ Put (now (buffer .entry)) at (orderText order group subgroup smoothed) r (now (buffer .exit)) ⌝ }
-    ensures { λ r. ⌜ r ≤ at + lineLength ⌝ }
+    ensures { λ r. ⌜ r ≤ at + textLineLength ⌝ }
 {
     if is_left_out(order, group, subgroup, smoothed) {
         return at;
@@ -152,7 +152,7 @@ fn put_line(
     smoothed: u32,
 ) -> usize
     requires { ⌜ order ≤ orderCount ⌝ }
-    requires { ⌜ at + lineLength ≤ length (now buffer) ⌝ }
+    requires { ⌜ at + textLineLength ≤ length (now buffer) ⌝ }
     ensures { λ r. ⌜ Put (now (buffer .entry)) at (orderLine order group subgroup smoothed) r (now (buffer .exit)) ⌝ }
 {
     let group_at = put_column(buffer, at, ORDER_WIDTH, order as u64);

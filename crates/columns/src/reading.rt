@@ -3,7 +3,7 @@ use crate::BLANK;
 use crate::COLUMN_WIDTH;
 use crate::DIGIT_ZERO;
 use crate::MINUS;
-use crate::Number;
+use crate::NumberAnswer;
 use refusals::NO_REFUSAL;
 use refusals::NOT_A_COLUMN;
 ghost use mathlib.Core.Bool.{true, cond};
@@ -12,11 +12,11 @@ ghost use mathlib.Core.Path.{_≡_};
 ghost use Prim.Native.Nat.{_≤_};
 ghost use lib.ListN.{length, drop};
 ghost use Rattle.columns.specs.Column.{isDigit, areDigits, isWhole, placeValue, wholeNumber, negativeNumber, signedNumber, afterBlanks, columnNumber};
-ghost use Rattle.columns.specs.Calls.{widestRead, readingOf, columnReadOf};
+ghost use Rattle.columns.specs.Calls.{widestRead, readingOf, columnReadAnswer};
 
 // The number of a column of 8 bytes.
-pub fn read_column(text: &[u8]) -> Number
-    ensures { λ r. ⌜ r ≡ columnReadOf (now (text .entry)) ⌝ }
+pub fn read_column(text: &[u8]) -> NumberAnswer
+    ensures { λ r. ⌜ r ≡ columnReadAnswer (now (text .entry)) ⌝ }
 {
     if text.len() != COLUMN_WIDTH {
         return refused();
@@ -25,7 +25,7 @@ pub fn read_column(text: &[u8]) -> Number
 }
 
 // The number of a column as wide as the text.
-fn column_number(text: &[u8]) -> Number
+fn column_number(text: &[u8]) -> NumberAnswer
     requires { ⌜ length (now text) ≤ widestRead ⌝ }
     ensures { λ r. ⌜ r ≡ readingOf (columnNumber (now (text .entry))) ⌝ }
 {
@@ -34,7 +34,7 @@ fn column_number(text: &[u8]) -> Number
 }
 
 // The number of a text with no blanks before it.
-fn signed_number(text: &[u8]) -> Number
+fn signed_number(text: &[u8]) -> NumberAnswer
     requires { ⌜ length (now text) ≤ widestRead ⌝ }
     ensures { λ r. ⌜ r ≡ readingOf (signedNumber (now (text .entry))) ⌝ }
 {
@@ -48,7 +48,7 @@ fn signed_number(text: &[u8]) -> Number
 }
 
 // The number of a text of digits, with a minus before it or without.
-fn digits_number(text: &[u8], negative: bool) -> Number
+fn digits_number(text: &[u8], negative: bool) -> NumberAnswer
     requires { ⌜ length (now text) ≤ widestRead ⌝ }
     ensures { λ r. ⌜ r ≡ readingOf (cond negative (negativeNumber (now (text .entry))) (wholeNumber (now (text .entry)))) ⌝ }
 {
@@ -66,20 +66,20 @@ fn digits_number(text: &[u8], negative: bool) -> Number
 }
 
 // The answer for a text that is a column.
-fn number(value: i64) -> Number
+fn number(value: i64) -> NumberAnswer
     ensures { λ r. ⌜ r ≡ readingOf (some value) ⌝ }
 {
-    Number {
+    NumberAnswer {
         refusal: NO_REFUSAL,
         value,
     }
 }
 
 // The answer for a text that is no column.
-fn refused() -> Number
+fn refused() -> NumberAnswer
     ensures { λ r. ⌜ r ≡ readingOf none ⌝ }
 {
-    Number {
+    NumberAnswer {
         refusal: NOT_A_COLUMN,
         value: 0,
     }

@@ -13,12 +13,12 @@ ghost use lib.IntN.{natAbs};
 ghost use lib.ListN.{length, replicate};
 ghost use Rattle.columns.specs.Text.{blank};
 ghost use Rattle.columns.specs.Column.{digitByte, decimalText, numberText, fitsColumn, columnText};
-ghost use Rattle.columns.specs.Calls.{writeFault, columnWriteFault, columnWritten};
+ghost use Rattle.columns.specs.Calls.{writeRefusal, columnWriteRefusal, columnWriteExit};
 
 // Writes the column of a number into a buffer of 8 bytes, and answers the refusal, or NO_REFUSAL.
 pub fn write_column(buffer: &mut [u8], number: i64) -> u32
-    ensures { λ r. ⌜ r ≡ columnWriteFault (now (buffer .entry)) number ⌝ }
-    ensures { λ _. ⌜ now (buffer .exit) ≡ columnWritten (now (buffer .entry)) number ⌝ }
+    ensures { λ r. ⌜ r ≡ columnWriteRefusal (now (buffer .entry)) number ⌝ }
+    ensures { λ _. ⌜ now (buffer .exit) ≡ columnWriteExit (now (buffer .entry)) number ⌝ }
 {
     let fault = write_fault(COLUMN_WIDTH, COLUMN_WIDTH, buffer, number);
     if fault == NO_REFUSAL {
@@ -29,7 +29,7 @@ pub fn write_column(buffer: &mut [u8], number: i64) -> u32
 
 // What refuses a text of a length that has a column of a width for a number, or NO_REFUSAL.
 pub(crate) fn write_fault(length: usize, width: usize, buffer: &[u8], number: i64) -> u32
-    ensures { λ r. ⌜ r ≡ writeFault length width (now (buffer .entry)) number ⌝ }
+    ensures { λ r. ⌜ r ≡ writeRefusal length width (now (buffer .entry)) number ⌝ }
 {
     if buffer.len() != length {
         return WRONG_BUFFER_LENGTH;

@@ -7,7 +7,7 @@ use lib.IntN.{ℤ}
 use Rattle.refusals.specs.Numbers.{noRefusal}
 use Rattle.refusals.specs.Answers.{firstFault}
 use Rattle.spectrum.specs.Line.{windowAt, linesOf}
-use Rattle.spectrum.specs.Spectrum.{spectrumRefusal, spectrumBuffer}
+use Rattle.spectrum.specs.Spectrum.{spectrumRefusal, spectrumExit}
 use Rattle.spectrum.proofs.Accepted as Accepted
 use Rattle.groups.specs.Group.{groupRefusal}
 use Rattle.groups.proofs.GroupSum.{accepted, accepted-value}
@@ -15,7 +15,7 @@ use Rattle.rows.proofs.Orders.{order-bounds}
 use Rattle.accuracy.specs.Distance.{InRange, GroupsNear}
 use Rattle.accuracy.proofs.GroupDistance.{groups-near}
 use Rattle.kifsang.specs.Kinds.{kindWith, kindCheck}
-use Rattle.kifsang.specs.GroupCalls.{groupCallRefusal, groupCallValue, rowCallRefusal, rowCallValues}
+use Rattle.kifsang.specs.GroupCalls.{groupCallRefusal, groupCallExit, rowCallRefusal, rowCallExit}
 use Rattle.kifsang.proofs.Handed.{own-first-none}
 use Rattle.exported_accuracy.specs.Claim.{CalledGroup, CalledRow}
 
@@ -25,14 +25,14 @@ module _ (recording : List ℤ) (start : ℕ) (buffer : List ℕ) (taken : spect
       let call = Accepted.accepted recording start buffer taken in
       record { whole-window = call .whole-window; samples = call .in-range }
 
-  lines-left : spectrumBuffer recording start buffer ≡ linesOf (windowAt recording start)
-  unfolding spectrumBuffer
+  lines-left : spectrumExit recording start buffer ≡ linesOf (windowAt recording start)
+  unfolding spectrumExit
   lines-left = rw taken
 
 pub called-group :
     (recording : List ℤ) (start : ℕ) (buffer : List ℕ) (number system order before : ℕ) →
     CalledGroup recording start buffer number system order before
-unfolding groupCallRefusal groupCallValue GroupsNear
+unfolding groupCallRefusal groupCallExit GroupsNear
 called-group recording start buffer number system order before taken asked =
     let window = windowAt recording start in
     let lines = linesOf window in
@@ -48,6 +48,6 @@ called-group recording start buffer number system order before taken asked =
 pub called-row :
     (recording : List ℤ) (start : ℕ) (buffer : List ℕ) (number system : ℕ) (before : List ℕ) →
     CalledRow recording start buffer number system before
-unfolding rowCallRefusal rowCallValues
+unfolding rowCallRefusal rowCallExit
 called-row recording start buffer number system before taken asked =
     record { in-range = window-in-range recording start buffer taken; values = rw (asked, lines-left recording start buffer taken) }

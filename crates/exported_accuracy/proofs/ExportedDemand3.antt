@@ -19,7 +19,7 @@ use Rattle.accuracy.specs.Claim.{WorkedList, ListHolds, after, reportedBook}
 use Rattle.accuracy.proofs.Demand3.{demand3}
 use Rattle.kifsang.specs.Refusals.{wordCountCheck}
 use Rattle.kifsang.specs.Words.{recordWords, recordOf, wordsOf}
-use Rattle.kifsang.specs.RecordCalls.{verdictCallRefusal, verdictCallNumber}
+use Rattle.kifsang.specs.RecordCalls.{verdictCallRefusal, verdictCallExit}
 use Rattle.kifsang.proofs.Handed.{own-first-none}
 use Rattle.kifsang.proofs.RecordWords.{record-of-words}
 use Rattle.kifsang.proofs.VerdictCases.{given-case}
@@ -80,7 +80,7 @@ module _
         (order unitsPerAmpere : ℕ) →
         verdictCallRefusal words order unitsPerAmpere ≡ noRefusal →
         CalledVerdict kind list words order unitsPerAmpere
-    unfolding verdictCallRefusal verdictCallNumber
+    unfolding verdictCallRefusal verdictCallExit
     called-verdict order unitsPerAmpere asked =
         let o = recordAt kind list in
         let passed : verdictRefusal o order unitsPerAmpere ≡ noRefusal =

@@ -24,7 +24,7 @@ use Rattle.observation.proofs.CallList.{record-after-snoc}
 use Rattle.observation.proofs.SoundRecord.{fresh-of-known}
 use Rattle.kifsang.specs.Refusals.{wrongWordCount, ownFirst}
 use Rattle.kifsang.specs.Words.{recordWords, recordOf, wordsOf}
-use Rattle.kifsang.specs.RecordCalls.{lentRow, freshCallRefusal, freshCallWords, addRowCallRefusal, addRowCallWords}
+use Rattle.kifsang.specs.RecordCalls.{lentRow, freshCallRefusal, freshCallExit, addRowCallRefusal, addRowCallExit}
 use Rattle.kifsang.proofs.RecordWords.{record-of-words}
 use Rattle.exported_accuracy.specs.Calls.{Asked, freshRecord, addRow, askVerdict, Call, Begun}
 use Rattle.exported_accuracy.specs.Calls.{leftBy, wordsAtExit, wordsAfter, withCall, listAsked, listAtExit, listAfter}
@@ -92,8 +92,8 @@ follows-length (some list) words follows = ap length (follows .held) ∙ words-l
 fresh-follows :
     (system : ℕ) (begun : Option Begun) (words : List ℕ) →
     FollowsBegun begun words →
-    FollowsBegun (listAsked begun (freshRecord system)) (freshCallWords system words)
-unfolding listAsked freshCallWords freshCallRefusal freshRefusal recordAfter
+    FollowsBegun (listAsked begun (freshRecord system)) (freshCallExit system words)
+unfolding listAsked freshCallExit freshCallRefusal freshRefusal recordAfter
 fresh-follows system begun words follows =
     rw (eq-eqb (length words) recordWords (follows-length begun words follows)) (go (isSystem system) refl)
   where
@@ -145,8 +145,8 @@ row-follows (some list) words row follows =
 add-row-follows :
     (system : ℕ) (values : List ℕ) (begun : Option Begun) (words : List ℕ) →
     FollowsBegun begun words →
-    FollowsBegun (listAsked begun (addRow system values)) (addRowCallWords words system values)
-unfolding listAsked addRowCallWords addRowCallRefusal
+    FollowsBegun (listAsked begun (addRow system values)) (addRowCallExit words system values)
+unfolding listAsked addRowCallExit addRowCallRefusal
 add-row-follows system values begun words follows =
     rw (eq-eqb (length words) recordWords (follows-length begun words follows)) (go (eqb (length values) orderCount))
   where
@@ -175,7 +175,7 @@ asked-follows (askVerdict order unitsPerAmpere) begun words follows = follows
 
 -- other than 122 words stay as they were
 left-alone : (words : List ℕ) (asked : Asked) → (length words ≡ recordWords → ⊥) → leftBy words asked ≡ words
-unfolding leftBy freshCallWords freshCallRefusal addRowCallWords addRowCallRefusal
+unfolding leftBy freshCallExit freshCallRefusal addRowCallExit addRowCallRefusal
 left-alone words (freshRecord system) other = rw (ne-eqb (length words) recordWords other)
 left-alone words (addRow system values) other = rw (ne-eqb (length words) recordWords other)
 left-alone words (askVerdict order unitsPerAmpere) other = refl

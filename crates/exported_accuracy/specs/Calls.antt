@@ -9,7 +9,7 @@ use Rattle.rows.specs.Systems.{isSystem}
 use Rattle.rows.specs.Orders.{orderCount}
 use Rattle.rows.specs.declared.Row.{Row}
 use Rattle.kifsang.specs.Words.{recordWords}
-use Rattle.kifsang.specs.RecordCalls.{lentRow, freshCallWords, addRowCallWords}
+use Rattle.kifsang.specs.RecordCalls.{lentRow, freshCallExit, addRowCallExit}
 
 -- what is asked of a record's words
 pub data Asked : Type 0 where
@@ -22,8 +22,8 @@ pub data Asked : Type 0 where
 
 -- what some words hold at exit, by the contract of each function; a verdict only reads them
 unfoldable pub leftBy : List ℕ → Asked → List ℕ
-leftBy words (freshRecord system) = freshCallWords system words
-leftBy words (addRow system values) = addRowCallWords words system values
+leftBy words (freshRecord system) = freshCallExit system words
+leftBy words (addRow system values) = addRowCallExit words system values
 leftBy words (askVerdict order unitsPerAmpere) = words
 
 -- a call lends so many of the caller's words from the first on, all of them where there are fewer

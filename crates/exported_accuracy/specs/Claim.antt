@@ -8,18 +8,18 @@ use lib.ListN.{length, getD}
 use Rattle.algebra.specs.Fraction.{whole, _+ᶠ_, _≤ᶠ_}
 use Rattle.refusals.specs.Numbers.{noRefusal}
 use Rattle.spectrum.specs.Line.{windowAt}
-use Rattle.spectrum.specs.Spectrum.{spectrumRefusal, spectrumBuffer}
+use Rattle.spectrum.specs.Spectrum.{spectrumRefusal, spectrumExit}
 use Rattle.groups.specs.declared.Kind.{Kind}
 use Rattle.rows.specs.Orders.{orderCount}
 use Rattle.verdict.specs.declared.Verdict.{Verdict}
-use Rattle.verdict.specs.Tests.{band}
+use Rattle.observation.specs.Smoothing.{smoothedMargin}
 use Rattle.verdict.specs.Call.{orderNumber}
 use Rattle.accuracy.specs.Distance.{ValueNear}
 use Rattle.accuracy.specs.Claim.{Worked, WorkedList, LBook, UBook, after, state, Keeps, ListHolds}
 use Rattle.kifsang.specs.Kinds.{kindWith}
-use Rattle.kifsang.specs.GroupCalls.{groupCallRefusal, groupCallValue, rowCallRefusal, rowCallValues}
+use Rattle.kifsang.specs.GroupCalls.{groupCallRefusal, groupCallExit, rowCallRefusal, rowCallExit}
 use Rattle.kifsang.specs.Words.{smoothedPlace, recordWords, wordsOf}
-use Rattle.kifsang.specs.RecordCalls.{lentRow, verdictNumber, verdictCallRefusal, verdictCallNumber}
+use Rattle.kifsang.specs.RecordCalls.{lentRow, verdictNumber, verdictCallRefusal, verdictCallExit}
 use Rattle.exported_accuracy.specs.Calls.{Call, Begun, wordsAfter, listAfter}
 
 -- the word of an order's smoothed value
@@ -30,7 +30,7 @@ smoothedWord words order = getD words (smoothedPlace + (order - 1)) 0
 pub record CalledVerdict (kind : Kind) (list : Begun) (words : List ℕ) (order unitsPerAmpere : ℕ) : Type 0 where
   pub verdict : Verdict
   pub of-order : orderNumber verdict ≡ order
-  pub number : (before : ℕ) → verdictCallNumber words order unitsPerAmpere before ≡ verdictNumber verdict
+  pub number : (before : ℕ) → verdictCallExit words order unitsPerAmpere before ≡ verdictNumber verdict
   pub kept : Keeps kind (list .system) (list .rows) order unitsPerAmpere verdict
 
 -- what some words hold after a list of document 01
@@ -44,13 +44,13 @@ pub record WordsHold (kind : Kind) (list : Begun) (words : List ℕ) : Type 0 wh
       0 < order →
       order ≤ orderCount →
       (book : LBook kind (list .system) (list .rows) order) →
-      state kind (list .system) (list .rows) book .smoothed ≤ᶠ whole (smoothedWord words order + band)
+      state kind (list .system) (list .rows) book .smoothed ≤ᶠ whole (smoothedWord words order + smoothedMargin)
   pub smoothed-high :
       (order : ℕ) →
       0 < order →
       order ≤ orderCount →
       (book : UBook kind (list .system) (list .rows) order) →
-      whole (smoothedWord words order) ≤ᶠ state kind (list .system) (list .rows) book .smoothed +ᶠ whole band
+      whole (smoothedWord words order) ≤ᶠ state kind (list .system) (list .rows) book .smoothed +ᶠ whole smoothedMargin
   pub verdicts :
       (order unitsPerAmpere : ℕ) →
       verdictCallRefusal words order unitsPerAmpere ≡ noRefusal →
@@ -61,17 +61,17 @@ module _ (recording : List ℤ) (start : ℕ) (buffer : List ℕ) (number system
   abbrev pub CalledGroup : ℕ → ℕ → Type 0
   CalledGroup order before =
       spectrumRefusal recording start buffer ≡ noRefusal →
-      groupCallRefusal number system order (spectrumBuffer recording start buffer) ≡ noRefusal →
+      groupCallRefusal number system order (spectrumExit recording start buffer) ≡ noRefusal →
       ValueNear (kindWith number) system order (windowAt recording start)
-      (groupCallValue number system order (spectrumBuffer recording start buffer) before)
+      (groupCallExit number system order (spectrumExit recording start buffer) before)
 
   abbrev pub CalledRow : List ℕ → Type 0
   CalledRow before =
       spectrumRefusal recording start buffer ≡ noRefusal →
-      rowCallRefusal number system (spectrumBuffer recording start buffer) before ≡ noRefusal →
+      rowCallRefusal number system (spectrumExit recording start buffer) before ≡ noRefusal →
       Worked
       (kindWith number)
-      (lentRow system (rowCallValues number system (spectrumBuffer recording start buffer) before))
+      (lentRow system (rowCallExit number system (spectrumExit recording start buffer) before))
       (windowAt recording start)
 
 -- Demand 3 for the exported calls: the distance of a group value; a row that is worked from samples; and for any calls on any 122 words, refused ones and ones that lend fewer words included, the claim about the list that they have come to, where its accepted rows are worked from samples of one kind.

@@ -1,5 +1,4 @@
 -- What is known of a group call that is not refused: its sum of 2×w×L fits 64 bits without sign, its value 32. The orders 1..40 share their refusal.
--- Assumes nothing.
 use mathlib.Core.Path.{_≡_, refl, sym, _∙_}
 use mathlib.Core.Bool.{Bool, true, false, cond, not}
 use mathlib.Core.List.{List}
@@ -15,10 +14,10 @@ use Rattle.integers.proofs.Root.{lt-rootLimit, root-of-largest, root-le-of-le}
 use Rattle.refusals.specs.Numbers.{noRefusal, unknownSystem, orderOutOfRange, wrongLineCount, lineTooLarge}
 use Rattle.refusals.proofs.Answers.{no-fault}
 use Rattle.rows.proofs.Orders.{order-of-place}
-use Rattle.spectrum.specs.Line.{lineCount}
+use Rattle.spectrum.specs.Line.{lineCount, largestLine}
 use Rattle.groups.specs.declared.Kind.{Kind}
 use Rattle.groups.specs.Weights.{Weighted, weightsOf, weightedSum}
-use Rattle.groups.specs.Group.{largestLine, lineAt, groupRefusal, groupValue, groupAnswer, groupValues}
+use Rattle.groups.specs.Group.{lineAt, groupRefusal, groupValue, groupAnswer, groupValues}
 use Rattle.rows.specs.Systems.{isSystem}
 use Rattle.rows.specs.Orders.{orderCount, isOrder}
 use Rattle.groups.proofs.Weights.{totalTwiceWeight, largestTotal, weightedSum-le-total, weights-total-le}

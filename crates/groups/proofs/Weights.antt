@@ -1,6 +1,5 @@
 -- Laws of the weighted sum over any list of weights: one line more, lines that are alike, at most the total weight times the largest line.
 -- Of the kinds' own lists: for systems 10 and 12 twice the weights add up to at most 24, and for orders 1..40 every line number is below 512.
--- Assumes nothing.
 use mathlib.Core.Path.{_≡_, refl, ap}
 use mathlib.Core.Bool.{true}
 use mathlib.Core.Logic.{⊎-elim}

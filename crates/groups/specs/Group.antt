@@ -1,7 +1,7 @@
 -- The group value and what the call answers (document 01, "Groups" and the refusal table's row "group value").
 use mathlib.Core.Bool.{not}
 use mathlib.Core.List.{List, [], _∷_}
-use Prim.Native.Nat.{ℕ, _+_, _^_}
+use Prim.Native.Nat.{ℕ, _+_}
 use lib.Dec.{eqb, ltb}
 use lib.ListN.{length, getD}
 use Rattle.algebra.specs.Lists.{tabulate, anyOf}
@@ -11,14 +11,10 @@ use Rattle.refusals.specs.Answers.{firstFault, answer}
 use Rattle.refusals.specs.declared.Answer.{Answer}
 use Rattle.rows.specs.Orders.{orderCount, isOrder}
 use Rattle.rows.specs.Systems.{isSystem}
-use Rattle.spectrum.specs.Line.{lineCount}
+use Rattle.spectrum.specs.Line.{lineCount, largestLine}
 use Rattle.groups.specs.declared.Kind.{Kind}
 use Rattle.groups.specs.declared.OrderValues.{OrderValues}
 use Rattle.groups.specs.Weights.{weightsOf, weightedSum}
-
--- the largest line that is taken
-abbrev pub largestLine : ℕ
-largestLine = 2 ^ 59
 
 -- the line with a number, 0 past the end
 abbrev pub lineAt : List ℕ → ℕ → ℕ

@@ -1,8 +1,8 @@
 // The group value of a kind, a system and an order over the 512 lines of a window, and the values of all orders.
 use crate::Kind;
 use crate::OrderValues;
-use lists::any_above;
 use integers::square_root::root;
+use lists::any_above;
 use refusals::Answer;
 use refusals::LINE_TOO_LARGE;
 use refusals::NO_REFUSAL;

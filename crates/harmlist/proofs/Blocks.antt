@@ -13,7 +13,7 @@ use Rattle.io.specs.Counts.{Counts}
 use Rattle.refusals.specs.Numbers.{noRefusal}
 use Rattle.observation.specs.Soundness.{mostWindows}
 use Rattle.recordings.specs.declared.Reading.{Reading}
-use Rattle.recordings.specs.Lines.{lineBytes}
+use Rattle.recordings.specs.Lines.{textLineBytes}
 use Rattle.recordings.specs.Reading.{windowBytes, blockOf, outputOf}
 use Rattle.recordings.specs.Blocks.{joined, readingAfter, WholeButLast, CutInBlocks}
 use Rattle.recordings.proofs.WindowAdded.{block-added}
@@ -171,8 +171,8 @@ module _ (line : Input) (read : LineRead line) where
     ends = ends;
   }
 
-  line-short : line .short ≡ true → length (read .bytes) < lineBytes
-  line-short e = ltb-true (length (read .bytes)) lineBytes (sym (read .short-is) ∙ e)
+  line-short : line .short ≡ true → length (read .bytes) < textLineBytes
+  line-short e = ltb-true (length (read .bytes)) textLineBytes (sym (read .short-is) ∙ e)
 
   -- no block is read after a line that is short, or whose read failed
   pub line-ends : Ends line → TextRead line

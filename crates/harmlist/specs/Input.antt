@@ -8,7 +8,7 @@ use lib.Dec.{ltb}
 use lib.ListN.{length}
 use Rattle.refusals.specs.Numbers.{noRefusal}
 use Rattle.recordings.specs.declared.Reading.{Reading}
-use Rattle.recordings.specs.Lines.{lineBytes}
+use Rattle.recordings.specs.Lines.{textLineBytes}
 use Rattle.recordings.specs.Output.{harmlistOutput}
 use Rattle.recordings.specs.Reading.{windowBytes, beginOf, blockOf, outputOf}
 use Rattle.recordings.specs.Blocks.{WholeButLast, readingAfter}
@@ -23,7 +23,7 @@ pub record BytesRead (most : ℕ) (readAs : List ℕ → Reading) (input : Input
 
 -- the first line
 abbrev pub LineRead : Input → Type 0
-LineRead = BytesRead lineBytes beginOf
+LineRead = BytesRead textLineBytes beginOf
 
 -- a window's lines
 abbrev pub BlockRead : Reading → Input → Type 0

@@ -1,5 +1,4 @@
 -- Newton's iteration for the whole part of a square root: what one step keeps of a candidate r for the root of n, what the first candidate is, and that the last one is the root.
--- Assumes nothing.
 use mathlib.Core.Path.{sym, subst}
 use Prim.Native.Nat.{ℕ, _+_, _*_, _/_, _%_, _^_, _≤_, _<_}
 use native.Mathlib.Nat.{le-dest, mul-le-mul, mul-le-mul-left, mul-le-mul-right, lt-mul-div-succ, le-div-iff-mul-le, mod-eq-of-lt}

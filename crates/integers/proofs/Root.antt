@@ -1,5 +1,4 @@
 -- The law of `rootOf`: below `rootLimit` it is the one number whose square is at most n while the next square is above n; it grows with n.
--- Assumes nothing.
 use mathlib.Core.Path.{_≡_, refl}
 use Prim.Native.Nat.{ℕ, _+_, _-_, _*_, _^_, _≤_, _<_}
 use native.Mathlib.Nat.{le-suc, le-trans, lt-of-le-of-lt, mul-le-mul}

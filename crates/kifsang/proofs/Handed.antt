@@ -1,4 +1,4 @@
--- An answer of the library as the caller receives it. Assumes nothing.
+-- An answer of the library as the caller receives it.
 use mathlib.Core.Path.{_≡_, refl, _∙_}
 use mathlib.Core.Bool.{Bool, true, false, cond}
 use mathlib.Core.List.{List}
@@ -9,7 +9,7 @@ use Rattle.refusals.specs.Numbers.{noRefusal}
 use Rattle.refusals.specs.Answers.{unlessRefused, answer}
 use Rattle.refusals.specs.declared.Answer.{Answer}
 use Rattle.observation.specs.declared.Observation.{Observation}
-use Rattle.observation.specs.declared.Recorded.{Recorded}
+use Rattle.observation.specs.declared.RecordAnswer.{RecordAnswer}
 use Rattle.kifsang.specs.Words.{wordsOf}
 
 -- what the library puts beside a refusal never reaches the caller
@@ -35,7 +35,7 @@ handed-answer refusal worked old received exit a e handed =
     (answered .0, answered .1 ∙ received-eq (λ (v : ℕ). v) refusal worked 0 old)
 
 -- a record: the refusal, and the record's words unless it is refused
-pub handed-record : {A : Type 0} (f : A → Observation) (refusal : ℕ) (worked other : A) (old exit : List ℕ) (received : ℕ) (recorded : Recorded) → recorded ≡ record { refusal = refusal; observation = f (unlessRefused refusal worked other) } → (received ≡ recorded .refusal) × (exit ≡ unlessRefused (recorded .refusal) (wordsOf (recorded .observation)) old) → (received ≡ refusal) × (exit ≡ unlessRefused refusal (wordsOf (f worked)) old)
+pub handed-record : {A : Type 0} (f : A → Observation) (refusal : ℕ) (worked other : A) (old exit : List ℕ) (received : ℕ) (recorded : RecordAnswer) → recorded ≡ record { refusal = refusal; observation = f (unlessRefused refusal worked other) } → (received ≡ recorded .refusal) × (exit ≡ unlessRefused (recorded .refusal) (wordsOf (recorded .observation)) old) → (received ≡ refusal) × (exit ≡ unlessRefused refusal (wordsOf (f worked)) old)
 handed-record {A} f refusal worked other old exit received recorded e handed =
     let answered = rw e at handed in
     (answered .0, answered .1 ∙ received-eq (λ (x : A). wordsOf (f x)) refusal worked other old)

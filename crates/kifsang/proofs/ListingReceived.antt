@@ -1,4 +1,4 @@
--- What the caller receives of a listing of three rows of 40 values. Assumes nothing.
+-- What the caller receives of a listing of three rows of 40 values.
 use mathlib.Core.Path.{_≡_, sym, _∙_}
 use mathlib.Core.List.{List, _++_}
 use Prim.Native.Nat.{ℕ}
@@ -8,20 +8,20 @@ use Rattle.refusals.specs.Answers.{unlessRefused, answer}
 use Rattle.refusals.specs.declared.Answer.{Answer}
 use Rattle.rows.specs.Orders.{orderCount}
 use Rattle.columns.specs.Listing.{listingText}
-use Rattle.columns.specs.Calls.{listingFault, listingWritten}
-use Rattle.kifsang.specs.ListingCall.{listingCallRefusal, listingCallBytes, listingCallCount}
+use Rattle.columns.specs.Calls.{listingRefusal, listingExit}
+use Rattle.kifsang.specs.ListingCall.{listingCallRefusal, listingCallExit, listingCallCountExit}
 use Rattle.kifsang.proofs.Handed.{received-eq, handed-answer}
 
 module _ (group subgroup smoothed buffer : List ℕ) (whole-group : length group ≡ orderCount) (whole-subgroup : length subgroup ≡ orderCount) (whole-smoothed : length smoothed ≡ orderCount) where
-  pub listing-received : (old received count : ℕ) (exit : List ℕ) (a : Answer) → a ≡ answer (listingFault buffer) (length (listingText group subgroup smoothed)) → exit ≡ listingWritten buffer group subgroup smoothed → (received ≡ a .refusal) × (count ≡ unlessRefused (a .refusal) (a .value) old) → (received ≡ listingCallRefusal group subgroup smoothed buffer) × ((exit ≡ listingCallBytes group subgroup smoothed buffer) × (count ≡ listingCallCount group subgroup smoothed buffer old))
-  unfolding listingCallRefusal listingCallBytes listingCallCount listingWritten
+  pub listing-received : (old received count : ℕ) (exit : List ℕ) (a : Answer) → a ≡ answer (listingRefusal buffer) (length (listingText group subgroup smoothed)) → exit ≡ listingExit buffer group subgroup smoothed → (received ≡ a .refusal) × (count ≡ unlessRefused (a .refusal) (a .value) old) → (received ≡ listingCallRefusal group subgroup smoothed buffer) × ((exit ≡ listingCallExit group subgroup smoothed buffer) × (count ≡ listingCallCountExit group subgroup smoothed buffer old))
+  unfolding listingCallRefusal listingCallExit listingCallCountExit listingExit
   listing-received old received count exit a answered wrote handed =
       let text = listingText group subgroup smoothed in
-      let both = handed-answer (listingFault buffer) (length text) old received count a answered handed in
+      let both = handed-answer (listingRefusal buffer) (length text) old received count a answered handed in
       rw (eq-eqb (length group) orderCount whole-group, eq-eqb (length subgroup) orderCount whole-subgroup, eq-eqb (length smoothed) orderCount whole-smoothed) (
         both .0,
         (
-          wrote ∙ sym (received-eq (λ (x : List ℕ). x) (listingFault buffer) (text ++ drop (length text) buffer) buffer buffer),
+          wrote ∙ sym (received-eq (λ (x : List ℕ). x) (listingRefusal buffer) (text ++ drop (length text) buffer) buffer buffer),
           both .1,
         ),
       )

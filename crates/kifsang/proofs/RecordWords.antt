@@ -1,4 +1,4 @@
--- A record and its words determine each other, the words that the code writes are the record's, and a record whose system or count of windows passes 32 bits is not sound. Assumes nothing.
+-- A record and its words determine each other, the words that the code writes are the record's, and a record whose system or count of windows passes 32 bits is not sound.
 use mathlib.Core.Path.{_≡_, refl, sym, ap, _∙_}
 use mathlib.Core.Bool.{Bool, true, false, true≢false, _&&_}
 use mathlib.Core.List.{List, [], _∷_, _++_, append-assoc}

@@ -1,4 +1,4 @@
--- What the two cases of a verdict's answer say of the call. Assumes nothing.
+-- What the two cases of a verdict's answer say of the call.
 use mathlib.Core.Path.{_≡_, refl}
 use mathlib.Core.Bool.{Bool, true, false, cond}
 use Prim.Native.Nat.{ℕ}

@@ -3,8 +3,8 @@ use mathlib.Core.List.{List}
 use Prim.Native.Nat.{ℕ}
 use lib.IntN.{ℤ}
 use Rattle.refusals.specs.Answers.{unlessRefused}
-use Rattle.columns.specs.Calls.{columnReadOf}
+use Rattle.columns.specs.Calls.{columnReadAnswer}
 
 -- the number at exit; on a refusal what it was
-unfoldable pub columnCallNumber : List ℕ → ℤ → ℤ
-columnCallNumber text number = unlessRefused (columnReadOf text .refusal) (columnReadOf text .value) number
+unfoldable pub columnCallExit : List ℕ → ℤ → ℤ
+columnCallExit text number = unlessRefused (columnReadAnswer text .refusal) (columnReadAnswer text .value) number

@@ -14,8 +14,8 @@ groupCallRefusal kind system order lines =
     ownFirst (kindCheck kind ∷ []) (groupRefusal system order lines)
 
 -- the value at exit; on a refusal what it was
-unfoldable pub groupCallValue : ℕ → ℕ → ℕ → List ℕ → ℕ → ℕ
-groupCallValue kind system order lines value =
+unfoldable pub groupCallExit : ℕ → ℕ → ℕ → List ℕ → ℕ → ℕ
+groupCallExit kind system order lines value =
     unlessRefused (groupCallRefusal kind system order lines) (groupValue (kindWith kind) system order lines) value
 
 -- 101; 102; then the row "group value" at order 1, which every order of a row shares
@@ -23,8 +23,8 @@ unfoldable pub rowCallRefusal : ℕ → ℕ → List ℕ → List ℕ → ℕ
 rowCallRefusal kind system lines values =
     ownFirst (kindCheck kind ∷ wordCountCheck orderCount values ∷ []) (groupRefusal system 1 lines)
 
-unfoldable pub rowCallValues : ℕ → ℕ → List ℕ → List ℕ → List ℕ
-rowCallValues kind system lines values =
+unfoldable pub rowCallExit : ℕ → ℕ → List ℕ → List ℕ → List ℕ
+rowCallExit kind system lines values =
     unlessRefused (rowCallRefusal kind system lines values) (groupValues (kindWith kind) system lines) values
 
 -- 102; then the row "distortion"
@@ -32,6 +32,6 @@ unfoldable pub distortionCallRefusal : List ℕ → ℕ
 distortionCallRefusal values =
     ownFirst (wordCountCheck orderCount values ∷ []) (distortionAnswer values .refusal)
 
-unfoldable pub distortionCallValue : List ℕ → ℕ → ℕ
-distortionCallValue values partsPerThousand =
+unfoldable pub distortionCallExit : List ℕ → ℕ → ℕ
+distortionCallExit values partsPerThousand =
     unlessRefused (distortionCallRefusal values) (distortionOf values) partsPerThousand

@@ -5,7 +5,7 @@ use lib.ListN.{length}
 use Rattle.refusals.specs.Answers.{unlessRefused}
 use Rattle.rows.specs.Orders.{orderCount}
 use Rattle.columns.specs.Listing.{listingText}
-use Rattle.columns.specs.Calls.{listingFault, listingWritten}
+use Rattle.columns.specs.Calls.{listingRefusal, listingExit}
 use Rattle.kifsang.specs.Refusals.{ownFirst, wordCountCheck}
 
 module _ (group subgroup smoothed : List ℕ) where
@@ -17,14 +17,14 @@ module _ (group subgroup smoothed : List ℕ) where
       ∷ wordCountCheck orderCount subgroup
       ∷ wordCountCheck orderCount smoothed
       ∷ [])
-      (listingFault buffer)
+      (listingRefusal buffer)
 
   -- the bytes at exit; on a refusal what they were
-  unfoldable pub listingCallBytes : List ℕ → List ℕ
-  listingCallBytes buffer =
-      unlessRefused (listingCallRefusal buffer) (listingWritten buffer group subgroup smoothed) buffer
+  unfoldable pub listingCallExit : List ℕ → List ℕ
+  listingCallExit buffer =
+      unlessRefused (listingCallRefusal buffer) (listingExit buffer group subgroup smoothed) buffer
 
   -- the count of the listing's bytes at exit; on a refusal what it was
-  unfoldable pub listingCallCount : List ℕ → ℕ → ℕ
-  listingCallCount buffer written =
+  unfoldable pub listingCallCountExit : List ℕ → ℕ → ℕ
+  listingCallCountExit buffer written =
       unlessRefused (listingCallRefusal buffer) (length (listingText group subgroup smoothed)) written

@@ -16,8 +16,8 @@ unfoldable pub freshCallRefusal : ℕ → List ℕ → ℕ
 freshCallRefusal system words = ownFirst (wordCountCheck recordWords words ∷ []) (freshRefusal system)
 
 -- the words at exit; on a refusal what they were
-unfoldable pub freshCallWords : ℕ → List ℕ → List ℕ
-freshCallWords system words =
+unfoldable pub freshCallExit : ℕ → List ℕ → List ℕ
+freshCallExit system words =
     unlessRefused (freshCallRefusal system words) (wordsOf (emptyRecord system)) words
 
 -- a row as the caller lends it
@@ -31,8 +31,8 @@ addRowCallRefusal words system values =
     (wordCountCheck recordWords words ∷ wordCountCheck orderCount values ∷ [])
     (addRowRefusal (recordOf words) (lentRow system values))
 
-unfoldable pub addRowCallWords : List ℕ → ℕ → List ℕ → List ℕ
-addRowCallWords words system values =
+unfoldable pub addRowCallExit : List ℕ → ℕ → List ℕ → List ℕ
+addRowCallExit words system values =
     unlessRefused
     (addRowCallRefusal words system values)
     (wordsOf (withRow (recordOf words) (lentRow system values)))
@@ -50,8 +50,8 @@ verdictCallRefusal words order unitsPerAmpere =
     ownFirst (wordCountCheck recordWords words ∷ []) (verdictRefusal (recordOf words) order unitsPerAmpere)
 
 -- the verdict's number at exit; on a refusal what it was
-unfoldable pub verdictCallNumber : List ℕ → ℕ → ℕ → ℕ → ℕ
-verdictCallNumber words order unitsPerAmpere verdict =
+unfoldable pub verdictCallExit : List ℕ → ℕ → ℕ → ℕ → ℕ
+verdictCallExit words order unitsPerAmpere verdict =
     unlessRefused
     (verdictCallRefusal words order unitsPerAmpere)
     (verdictNumber (verdictOf (recordOf words) order unitsPerAmpere))

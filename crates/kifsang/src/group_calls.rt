@@ -8,7 +8,7 @@ use groups::Kind;
 use rows::ORDER_COUNT;
 ghost use mathlib.Core.Path.{_≡_};
 ghost use Rattle.kifsang.specs.Kinds.{isKind, kindWith};
-ghost use Rattle.kifsang.specs.GroupCalls.{groupCallRefusal, groupCallValue, rowCallRefusal, rowCallValues, distortionCallRefusal, distortionCallValue};
+ghost use Rattle.kifsang.specs.GroupCalls.{groupCallRefusal, groupCallExit, rowCallRefusal, rowCallExit, distortionCallRefusal, distortionCallExit};
 
 // The kinds have the numbers 0..KIND_COUNT - 1.
 const KIND_COUNT: u32 = 5;
@@ -42,7 +42,7 @@ pub extern "C" fn kifsang_group_value(
     value: &mut u64,
 ) -> u32
     ensures { λ r. ⌜ r ≡ groupCallRefusal kind system order (now (lines .entry)) ⌝ }
-    ensures { λ _. ⌜ now (value .exit) ≡ groupCallValue kind system order (now (lines .entry)) (now (value .entry)) ⌝ }
+    ensures { λ _. ⌜ now (value .exit) ≡ groupCallExit kind system order (now (lines .entry)) (now (value .entry)) ⌝ }
 {
     if !is_kind(kind) {
         return UNKNOWN_KIND;
@@ -55,7 +55,7 @@ pub extern "C" fn kifsang_group_value(
 #[no_mangle]
 pub extern "C" fn kifsang_row(kind: u32, system: u32, lines: &[u64], values: &mut [u32]) -> u32
     ensures { λ r. ⌜ r ≡ rowCallRefusal kind system (now (lines .entry)) (now (values .entry)) ⌝ }
-    ensures { λ _. ⌜ now (values .exit) ≡ rowCallValues kind system (now (lines .entry)) (now (values .entry)) ⌝ }
+    ensures { λ _. ⌜ now (values .exit) ≡ rowCallExit kind system (now (lines .entry)) (now (values .entry)) ⌝ }
 {
     if !is_kind(kind) {
         return UNKNOWN_KIND;
@@ -70,7 +70,7 @@ pub extern "C" fn kifsang_row(kind: u32, system: u32, lines: &[u64], values: &mu
 #[no_mangle]
 pub extern "C" fn kifsang_distortion(values: &[u32], parts_per_thousand: &mut u64) -> u32
     ensures { λ r. ⌜ r ≡ distortionCallRefusal (now (values .entry)) ⌝ }
-    ensures { λ _. ⌜ now («parts_per_thousand» .exit) ≡ distortionCallValue (now (values .entry)) (now («parts_per_thousand» .entry)) ⌝ }
+    ensures { λ _. ⌜ now («parts_per_thousand» .exit) ≡ distortionCallExit (now (values .entry)) (now («parts_per_thousand» .entry)) ⌝ }
 {
     if values.len() != ORDER_COUNT {
         return WRONG_WORD_COUNT;

@@ -1,12 +1,12 @@
 // The spectral lines of a window, for callers in other languages.
 ghost use mathlib.Core.Path.{_≡_};
-ghost use Rattle.spectrum.specs.Spectrum.{spectrumRefusal, spectrumBuffer};
+ghost use Rattle.spectrum.specs.Spectrum.{spectrumRefusal, spectrumExit};
 
 // Writes the 512 lines of the window that begins at `start`.
 #[no_mangle]
 pub extern "C" fn kifsang_spectrum(recording: &[i32], start: usize, lines: &mut [u64]) -> u32
     ensures { λ r. ⌜ r ≡ spectrumRefusal (now (recording .entry)) start (now (lines .entry)) ⌝ }
-    ensures { λ _. ⌜ now (lines .exit) ≡ spectrumBuffer (now (recording .entry)) start (now (lines .entry)) ⌝ }
+    ensures { λ _. ⌜ now (lines .exit) ≡ spectrumExit (now (recording .entry)) start (now (lines .entry)) ⌝ }
 {
     spectrum::spectrum(recording, start, lines)
 }

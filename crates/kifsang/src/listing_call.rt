@@ -4,7 +4,7 @@ use crate::words::hand_over;
 use crate::words::row_values;
 use rows::ORDER_COUNT;
 ghost use mathlib.Core.Path.{_≡_};
-ghost use Rattle.kifsang.specs.ListingCall.{listingCallRefusal, listingCallBytes, listingCallCount};
+ghost use Rattle.kifsang.specs.ListingCall.{listingCallRefusal, listingCallExit, listingCallCountExit};
 
 // Writes the listing of the 40 orders' values and the count of its bytes.
 #[no_mangle]
@@ -16,8 +16,8 @@ pub extern "C" fn kifsang_fill_listing(
     written: &mut u64,
 ) -> u32
     ensures { λ r. ⌜ r ≡ listingCallRefusal (now (group .entry)) (now (subgroup .entry)) (now (smoothed .entry)) (now (buffer .entry)) ⌝ }
-    ensures { λ _. ⌜ now (buffer .exit) ≡ listingCallBytes (now (group .entry)) (now (subgroup .entry)) (now (smoothed .entry)) (now (buffer .entry)) ⌝ }
-    ensures { λ _. ⌜ now (written .exit) ≡ listingCallCount (now (group .entry)) (now (subgroup .entry)) (now (smoothed .entry)) (now (buffer .entry)) (now (written .entry)) ⌝ }
+    ensures { λ _. ⌜ now (buffer .exit) ≡ listingCallExit (now (group .entry)) (now (subgroup .entry)) (now (smoothed .entry)) (now (buffer .entry)) ⌝ }
+    ensures { λ _. ⌜ now (written .exit) ≡ listingCallCountExit (now (group .entry)) (now (subgroup .entry)) (now (smoothed .entry)) (now (buffer .entry)) (now (written .entry)) ⌝ }
 {
     if group.len() != ORDER_COUNT {
         return WRONG_WORD_COUNT;

@@ -5,20 +5,20 @@ use crate::record_words::counts_fit;
 use crate::record_words::hand_over_record;
 use crate::record_words::read_record;
 use crate::words::row_values;
-use rows::ORDER_COUNT;
-use rows::Row;
 use refusals::NO_REFUSAL;
 use refusals::UNSOUND_RECORD;
+use rows::ORDER_COUNT;
+use rows::Row;
 use verdict::Answered;
 use verdict::Verdict;
 ghost use mathlib.Core.Path.{_≡_};
-ghost use Rattle.kifsang.specs.RecordCalls.{freshCallRefusal, freshCallWords, addRowCallRefusal, addRowCallWords, verdictNumber, verdictCallRefusal, verdictCallNumber};
+ghost use Rattle.kifsang.specs.RecordCalls.{freshCallRefusal, freshCallExit, addRowCallRefusal, addRowCallExit, verdictNumber, verdictCallRefusal, verdictCallExit};
 
 // Writes a record of a system with zeros.
 #[no_mangle]
 pub extern "C" fn kifsang_fresh_record(system: u32, words: &mut [u64]) -> u32
     ensures { λ r. ⌜ r ≡ freshCallRefusal system (now (words .entry)) ⌝ }
-    ensures { λ _. ⌜ now (words .exit) ≡ freshCallWords system (now (words .entry)) ⌝ }
+    ensures { λ _. ⌜ now (words .exit) ≡ freshCallExit system (now (words .entry)) ⌝ }
 {
     if words.len() != RECORD_WORDS {
         return WRONG_WORD_COUNT;
@@ -30,7 +30,7 @@ pub extern "C" fn kifsang_fresh_record(system: u32, words: &mut [u64]) -> u32
 #[no_mangle]
 pub extern "C" fn kifsang_add_row(words: &mut [u64], system: u32, values: &[u32]) -> u32
     ensures { λ r. ⌜ r ≡ addRowCallRefusal (now (words .entry)) system (now (values .entry)) ⌝ }
-    ensures { λ _. ⌜ now (words .exit) ≡ addRowCallWords (now (words .entry)) system (now (values .entry)) ⌝ }
+    ensures { λ _. ⌜ now (words .exit) ≡ addRowCallExit (now (words .entry)) system (now (values .entry)) ⌝ }
 {
     if words.len() != RECORD_WORDS {
         return WRONG_WORD_COUNT;
@@ -71,7 +71,7 @@ pub extern "C" fn kifsang_verdict(
     verdict: &mut u32,
 ) -> u32
     ensures { λ r. ⌜ r ≡ verdictCallRefusal (now (words .entry)) order «units_per_ampere» ⌝ }
-    ensures { λ _. ⌜ now (verdict .exit) ≡ verdictCallNumber (now (words .entry)) order «units_per_ampere» (now (verdict .entry)) ⌝ }
+    ensures { λ _. ⌜ now (verdict .exit) ≡ verdictCallExit (now (words .entry)) order «units_per_ampere» (now (verdict .entry)) ⌝ }
 {
     if words.len() != RECORD_WORDS {
         return WRONG_WORD_COUNT;

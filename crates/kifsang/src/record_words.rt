@@ -1,9 +1,9 @@
 // An observation record as words. The places of its parts stand here once for the code, and in
 // specs/Words.antt once for the contracts.
-use rows::ORDER_COUNT;
 use observation::Observation;
-use observation::Recorded;
+use observation::RecordAnswer;
 use refusals::NO_REFUSAL;
+use rows::ORDER_COUNT;
 ghost use mathlib.Core.Bool.{true};
 ghost use mathlib.Core.Path.{_≡_};
 ghost use Prim.Native.Nat.{_+_, _≤_};
@@ -100,7 +100,7 @@ fn write_record(words: &mut [u64], observation: Observation)
 }
 
 // Hands a record to the caller: its words, unless the call was refused, and the refusal's number.
-pub(crate) fn hand_over_record(recorded: Recorded, words: &mut [u64]) -> u32
+pub(crate) fn hand_over_record(recorded: RecordAnswer, words: &mut [u64]) -> u32
     requires { ⌜ length (now words) ≡ recordWords ⌝ }
     ensures { λ r. ⌜ r ≡ recorded .refusal ⌝ }
     ensures { λ _. ⌜ now (words .exit) ≡ unlessRefused (recorded .refusal) (wordsOf (recorded .observation)) (now (words .entry)) ⌝ }

@@ -1,9 +1,9 @@
 // A row that a caller lends, as the library's array; an answer as its number and its value; a row that is answered.
-use rows::ORDER_COUNT;
 use groups::OrderValues;
-use rows::first_values;
 use refusals::Answer;
 use refusals::NO_REFUSAL;
+use rows::ORDER_COUNT;
+use rows::first_values;
 ghost use mathlib.Core.Path.{_≡_};
 ghost use lib.ListN.{length};
 ghost use Rattle.rows.specs.Orders.{orderCount};

@@ -1,4 +1,4 @@
--- Laws of a list of calls: one call more at its end. Assumes nothing.
+-- Laws of a list of calls: one call more at its end.
 use mathlib.Core.Path.{_≡_, refl}
 use mathlib.Core.List.{List, [], _∷_, _++_}
 use Prim.Native.Nat.{ℕ, _+_}

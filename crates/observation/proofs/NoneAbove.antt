@@ -1,4 +1,4 @@
--- `noneAbove` of a list, in terms of its places. Assumes nothing.
+-- `noneAbove` of a list, in terms of its places.
 use mathlib.Core.Path.{_≡_, ap}
 use mathlib.Core.Bool.{Bool, true, false, not, _||_}
 use mathlib.Core.List.{List, [], _∷_}

@@ -1,5 +1,5 @@
 -- The books of a record: what a row and a list of calls do to the book of each order, and to the record's system.
--- The record after a list of calls holds, for each order, the reported book fed at the same calls. Assumes nothing.
+-- The record after a list of calls holds, for each order, the reported book fed at the same calls.
 use mathlib.Core.Path.{_≡_, refl, _∙_, ap}
 use mathlib.Core.Bool.{Bool, true, false, cond}
 use mathlib.Core.List.{List, [], _∷_}

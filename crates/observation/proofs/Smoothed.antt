@@ -1,4 +1,4 @@
--- A smoothed value is no larger than the larger of the two it is made of. Assumes nothing.
+-- A smoothed value is no larger than the larger of the two it is made of.
 use mathlib.Core.Bool.{Bool, true, false, cond}
 use Prim.Native.Nat.{ℕ, _≤_}
 use native.Mathlib.Omega.{arith}

@@ -1,5 +1,5 @@
 -- What a sound record says of its numbers, and that it stays sound: the fresh record is sound, a row that is accepted leaves a sound record, and so does a list of calls.
--- A record's lists may have any length here: past its end a list holds zeros. Assumes nothing.
+-- A record's lists may have any length here: past its end a list holds zeros.
 use mathlib.Core.Path.{_≡_, refl, sym, _∙_}
 use mathlib.Core.Logic.{_⊎_, inl, inr, ⊎-elim}
 use mathlib.Core.Bool.{Bool, true, false, not, _&&_, cond}

@@ -8,7 +8,7 @@ use Rattle.algebra.specs.Lists.{tabulate, anyOf}
 use Rattle.algebra.specs.Rounding.{nearest}
 use Rattle.rows.specs.Systems.{isSystem}
 use Rattle.observation.specs.declared.Observation.{Observation}
-use Rattle.observation.specs.declared.Recorded.{Recorded}
+use Rattle.observation.specs.declared.RecordAnswer.{RecordAnswer}
 use Rattle.observation.specs.Book.{smoothedNext, bookStep}
 use Rattle.observation.specs.Smoothing.{smoothedValue}
 use Rattle.observation.specs.Soundness.{noneAbove, allZero, isSound}
@@ -54,7 +54,7 @@ records-worked = refl
 -- a system, the refusal, and the system of the record that is answered; the rest of it is zeros
 pub record Fresh : Type 0 where
   pub system : ℕ
-  pub answered : Recorded
+  pub answered : RecordAnswer
 
 abbrev fresh : ℕ → ℕ → ℕ → Fresh
 fresh system refusal recorded =
@@ -73,7 +73,7 @@ freshRecords-worked = refl
 pub record Call : Type 0 where
   pub observation : Observation
   pub system : ℕ
-  pub answered : Recorded
+  pub answered : RecordAnswer
 
 abbrev taken : Observation → ℕ → Observation → Call
 taken observation system after =

@@ -11,7 +11,7 @@ use Rattle.refusals.specs.Numbers.{unknownSystem, unsoundRecord, otherSystem, r
 use Rattle.refusals.specs.Answers.{firstFault, unlessRefused}
 use Rattle.rows.specs.declared.Row.{Row}
 use Rattle.observation.specs.declared.Observation.{Observation}
-use Rattle.observation.specs.declared.Recorded.{Recorded}
+use Rattle.observation.specs.declared.RecordAnswer.{RecordAnswer}
 use Rattle.observation.specs.Book.{Book, bookStep}
 use Rattle.observation.specs.Smoothing.{reported}
 use Rattle.observation.specs.Soundness.{isSound, mostWindows}
@@ -31,7 +31,7 @@ emptyRecord system =
 unfoldable pub freshRefusal : ℕ → ℕ
 freshRefusal system = firstFault ((not (isSystem system), unknownSystem) ∷ [])
 
-unfoldable pub freshAnswer : ℕ → Recorded
+unfoldable pub freshAnswer : ℕ → RecordAnswer
 freshAnswer system =
     record {
       refusal = freshRefusal system;
@@ -77,7 +77,7 @@ addRowRefusal o row =
     firstFault ((not (isSound o), unsoundRecord) ∷ rowChecks (o .system) (o .windows) row)
 
 -- a refusal returns the record unchanged
-unfoldable pub addRowAnswer : Observation → Row → Recorded
+unfoldable pub addRowAnswer : Observation → Row → RecordAnswer
 addRowAnswer o row =
     record {
       refusal = addRowRefusal o row;

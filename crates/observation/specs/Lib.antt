@@ -2,6 +2,7 @@
 pub mod Book
 pub mod Smoothing
 pub mod OrderBook
+pub mod Average
 pub mod Soundness
 pub mod Calls
 pub mod CallList

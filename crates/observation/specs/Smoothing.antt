@@ -13,6 +13,10 @@ oldWeight = 7012
 unfoldable pub smoothedValue : ℕ → ℕ → ℕ
 smoothedValue new old = nearest (newWeight * new + oldWeight * old) (newWeight + oldWeight)
 
+-- the units that a smoothed value may be off
+abbrev pub smoothedMargin : ℕ
+smoothedMargin = 12
+
 -- the numbers of the reported book: whole numbers, rounded
 abbrev pub reported : Numbers
 reported = record { Value = ℕ; none = 0; smooth = smoothedValue; plus = _+_; greater = max }

@@ -22,6 +22,9 @@ const OLD_WEIGHT: u64 = 7012;
 
 const BOTH_WEIGHTS: u64 = NEW_WEIGHT + OLD_WEIGHT;
 
+// The units that a smoothed value may be off.
+pub const SMOOTHED_MARGIN: u64 = 12;
+
 // The weighted mean of a new value and the old smoothed one, to the nearest, halves up.
 fn smoothed_value(new: u64, old: u64) -> u64
     requires { ⌜ (new ≤ largestValue) × (old ≤ largestValue) ⌝ }

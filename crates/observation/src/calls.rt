@@ -1,6 +1,6 @@
 // The calls that make a record and add a row to it.
 use crate::Observation;
-use crate::Recorded;
+use crate::RecordAnswer;
 use crate::book::OrderBook;
 use crate::book::book_step;
 use crate::soundness::MOST_WINDOWS;
@@ -32,16 +32,16 @@ fn empty_record(system: u32) -> Observation
 }
 
 // The record that a list of calls begins with. Refused: 1 unknown system.
-pub fn fresh_record(system: u32) -> Recorded
+pub fn fresh_record(system: u32) -> RecordAnswer
     ensures { λ r. ⌜ r ≡ freshAnswer system ⌝ }
 {
     if is_system(system) {
-        Recorded {
+        RecordAnswer {
             refusal: NO_REFUSAL,
             observation: empty_record(system),
         }
     } else {
-        Recorded {
+        RecordAnswer {
             refusal: UNKNOWN_SYSTEM,
             observation: empty_record(REFUSED_SYSTEM),
         }
@@ -112,17 +112,17 @@ fn with_row(observation: Observation, row: Row) -> Observation
 }
 
 // A row added to a record, or the refusal with the record unchanged.
-pub fn add_row(observation: Observation, row: Row) -> Recorded
+pub fn add_row(observation: Observation, row: Row) -> RecordAnswer
     ensures { λ r. ⌜ r ≡ addRowAnswer observation row ⌝ }
 {
     let refusal = add_row_refusal(observation, row);
     if refusal != NO_REFUSAL {
-        return Recorded {
+        return RecordAnswer {
             refusal,
             observation,
         };
     }
-    Recorded {
+    RecordAnswer {
         refusal: NO_REFUSAL,
         observation: with_row(observation, row),
     }

@@ -5,6 +5,7 @@ mod call_list;
 mod calls;
 mod soundness;
 
+pub use book::SMOOTHED_MARGIN;
 pub use call_list::add_rows;
 pub use calls::add_row;
 pub use calls::fresh_record;
@@ -24,7 +25,7 @@ pub struct Observation {
 
 // What fresh_record and add_row answer: NO_REFUSAL with the new record, or a refusal's number with
 // the record unchanged.
-pub struct Recorded {
+pub struct RecordAnswer {
     pub refusal: u32,
     pub observation: Observation,
 }

@@ -1,4 +1,4 @@
--- The reading after the first line, by the number on it. Assumes nothing.
+-- The reading after the first line, by the number on it.
 use mathlib.Core.Bool.{false, cond}
 use mathlib.Core.List.{List}
 use mathlib.Core.Option.{Option, none, some}
@@ -12,8 +12,8 @@ use Rattle.refusals.specs.Numbers.{noRefusal, notAColumn, unknownSystem}
 use Rattle.columns.specs.Calls.{readingOf}
 use Rattle.rows.specs.Systems.{isSystem}
 use Rattle.observation.specs.Calls.{freshRefusal, freshAnswer}
-use Rattle.recordings.specs.Lines.{lineAt, lineNumber, numberOr0, numberAt}
-use Rattle.recordings.specs.Faults.{isNone, noSystem, numberFault, lineFault}
+use Rattle.recordings.specs.Lines.{textLineAt, textLineNumber, numberOr0, numberAt}
+use Rattle.recordings.specs.Faults.{isNone, noSystem, numberRefusal, textLineRefusal}
 use Rattle.recordings.specs.Output.{systemIn}
 use Rattle.recordings.specs.Reading.{beginOf}
 use Rattle.recordings.specs.Steps.{largestSystem, systemWord, readingOfNone}
@@ -28,17 +28,17 @@ unfolding isSystem
 zero-no-system = refl
 
 -- the fault of the first line
-pub first-line-fault : (line : List ℕ) → lineFault line 0 ≡ cond (isNone (lineNumber (lineAt line 0))) notAColumn (cond (noSystem (numberAt line 0)) unknownSystem noRefusal)
-unfolding lineFault numberFault numberAt
+pub first-line-fault : (line : List ℕ) → textLineRefusal line 0 ≡ cond (isNone (textLineNumber (textLineAt line 0))) notAColumn (cond (noSystem (numberAt line 0)) unknownSystem noRefusal)
+unfolding textLineRefusal numberRefusal numberAt
 first-line-fault line = refl
 
 module _ (line : List ℕ) where
-  pub begin-without-number : lineNumber (lineAt line 0) ≡ none → readingOfNone notAColumn (freshAnswer (systemWord (pos 0)) .observation) ≡ beginOf line
-  unfolding beginOf readingOfNone lineFault numberFault isNone systemWord freshAnswer freshRefusal isSystem
+  pub begin-without-number : textLineNumber (textLineAt line 0) ≡ none → readingOfNone notAColumn (freshAnswer (systemWord (pos 0)) .observation) ≡ beginOf line
+  unfolding beginOf readingOfNone textLineRefusal numberRefusal isNone systemWord freshAnswer freshRefusal isSystem
   begin-without-number e = rw e
 
-  pub begin-with-number : (z : ℤ) → lineNumber (lineAt line 0) ≡ some z → readingOfNone (freshAnswer (systemWord z) .refusal) (freshAnswer (systemWord z) .observation) ≡ beginOf line
-  unfolding beginOf readingOfNone lineFault numberFault isNone systemWord numberAt numberOr0 systemIn noSystem freshAnswer freshRefusal
+  pub begin-with-number : (z : ℤ) → textLineNumber (textLineAt line 0) ≡ some z → readingOfNone (freshAnswer (systemWord z) .refusal) (freshAnswer (systemWord z) .observation) ≡ beginOf line
+  unfolding beginOf readingOfNone textLineRefusal numberRefusal isNone systemWord numberAt numberOr0 systemIn noSystem freshAnswer freshRefusal
   begin-with-number (pos n) e = by-size (decLt largestSystem n)
     where
       by-size : Dec (largestSystem < n) → readingOfNone (freshAnswer (systemWord (pos n)) .refusal) (freshAnswer (systemWord (pos n)) .observation) ≡ beginOf line
@@ -47,10 +47,10 @@ module _ (line : List ℕ) where
   begin-with-number (negsuc n) e = rw (e, zero-no-system)
 
   -- by what the line was read as
-  pub begin-refused : (o : Option ℤ) → lineNumber (lineAt line 0) ≡ o → (readingOf o .refusal ≡ noRefusal → ⊥) → readingOfNone (readingOf o .refusal) (freshAnswer (systemWord (readingOf o .value)) .observation) ≡ beginOf line
+  pub begin-refused : (o : Option ℤ) → textLineNumber (textLineAt line 0) ≡ o → (readingOf o .refusal ≡ noRefusal → ⊥) → readingOfNone (readingOf o .refusal) (freshAnswer (systemWord (readingOf o .value)) .observation) ≡ beginOf line
   begin-refused none e f = begin-without-number e
   begin-refused (some z) e f = absurd (f refl)
 
-  pub begin-taken : (o : Option ℤ) → lineNumber (lineAt line 0) ≡ o → readingOf o .refusal ≡ noRefusal → readingOfNone (freshAnswer (systemWord (readingOf o .value)) .refusal) (freshAnswer (systemWord (readingOf o .value)) .observation) ≡ beginOf line
+  pub begin-taken : (o : Option ℤ) → textLineNumber (textLineAt line 0) ≡ o → readingOf o .refusal ≡ noRefusal → readingOfNone (freshAnswer (systemWord (readingOf o .value)) .refusal) (freshAnswer (systemWord (readingOf o .value)) .observation) ≡ beginOf line
   begin-taken none e z = absurd (omega arith)
   begin-taken (some z) e h = begin-with-number z e

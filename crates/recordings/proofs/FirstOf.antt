@@ -1,4 +1,4 @@
--- Laws of the first fault of some places in their order. Assumes nothing.
+-- Laws of the first fault of some places in their order.
 use mathlib.Core.Bool.{cond}
 use mathlib.Core.Logic.{⊎-elim}
 use mathlib.Core.Path.{_≡_, refl, sym, _∙_}

@@ -1,6 +1,6 @@
 -- An input that is read in blocks gives what harmlist writes for it.
 -- The invariant `Holds` over a text of w whole windows: the reading's refusal is the first fault of the text's lines, and a reading that goes on holds the record of the text's windows and the rows of its last.
--- `begins`, `steps` and `ends` are its start, one window more, and what is written. Assumes nothing.
+-- `begins`, `steps` and `ends` are its start, one window more, and what is written.
 use mathlib.Core.Bool.{true, false, cond, true≢false}
 use mathlib.Core.List.{List, [], _∷_, _++_, append-nil, append-assoc}
 use mathlib.Core.Logic.{⊎-elim}
@@ -31,10 +31,10 @@ use Rattle.observation.proofs.SoundRecord.{sound-parts, empty-record-sound, fre
 use Rattle.refusals.proofs.Answers.{no-fault}
 use Rattle.observation.proofs.CallList.{record-after-tabulate}
 use Rattle.recordings.specs.declared.Reading.{Reading}
-use Rattle.recordings.specs.Lines.{lineBytes, lineCountOf, lineAt, lineNumber, numberAt}
-use Rattle.recordings.specs.Faults.{isNone, noSystem, lineFault, firstOf, faultBefore, endFault}
+use Rattle.recordings.specs.Lines.{textLineBytes, textLineCount, textLineAt, textLineNumber, numberAt}
+use Rattle.recordings.specs.Faults.{isNone, noSystem, textLineRefusal, firstOf, refusalBefore, endRefusal}
 use Rattle.recordings.specs.Output.{systemIn, windowIn, windowCount, rowOf, rowsIn, recordIn, listingFor, harmlistOutput}
-use Rattle.recordings.specs.Reading.{windowBytes, beginOf, faultOfLines, blockLines, samplesOf, refusedWith, windowTaken, blockOf, outputOf}
+use Rattle.recordings.specs.Reading.{windowBytes, beginOf, textLinesRefusal, blockLines, samplesOf, refusedWith, windowTaken, blockOf, outputOf}
 use Rattle.recordings.specs.Blocks.{joined, readingAfter, WholeButLast, FollowsDefinition, RefusedStays, StopsAtRefusal}
 use Rattle.recordings.proofs.NumberOnLine.{number-of-cut}
 use Rattle.recordings.proofs.FirstLine.{first-line-fault}
@@ -56,8 +56,8 @@ record GoesOn (text : List ℕ) (w : ℕ) (reading : Reading) : Type 0 where
   subgroup-is : 0 < w → reading .subgroup ≡ rowOf HarmonicSubgroup (systemIn text) (windowIn text (w - 1)) .values
 
 record Holds (text : List ℕ) (w : ℕ) (reading : Reading) : Type 0 where
-  long : length text ≡ lineBytes * linesTo w
-  refusal-is : reading .refusal ≡ faultBefore text (linesTo w)
+  long : length text ≡ textLineBytes * linesTo w
+  refusal-is : reading .refusal ≡ refusalBefore text (linesTo w)
   goes-on : reading .refusal ≡ noRefusal → GoesOn text w reading
 
 -- ---- its start
@@ -67,13 +67,13 @@ unfolding noSystem
 known-system (pos n) e = not-false (isSystem n) e
 known-system (negsuc n) e = absurd (true≢false e)
 
-system-of-first : (line : List ℕ) → lineFault line 0 ≡ noRefusal → isSystem (systemIn line) ≡ true
+system-of-first : (line : List ℕ) → textLineRefusal line 0 ≡ noRefusal → isSystem (systemIn line) ≡ true
 unfolding systemIn
 system-of-first line e =
     let unknown = noSystem (numberAt line 0) in
     known-system (numberAt line 0)
     (no-fault unknown unknownSystem noRefusal (omega arith)
-    (no-fault (isNone (lineNumber (lineAt line 0))) notAColumn (cond unknown unknownSystem noRefusal) (omega arith)
+    (no-fault (isNone (textLineNumber (textLineAt line 0))) notAColumn (cond unknown unknownSystem noRefusal) (omega arith)
     (sym (first-line-fault line) ∙ e) .1) .0)
 
 system-of-empty : (system : ℕ) → emptyRecord system .system ≡ system
@@ -84,8 +84,8 @@ windows-of-empty : (system : ℕ) → emptyRecord system .windows ≡ 0
 unfolding emptyRecord
 windows-of-empty system = refl
 
-begins : (line : List ℕ) → length line ≡ lineBytes → Holds line 0 (beginOf line)
-unfolding beginOf faultBefore firstOf recordIn rowsIn tabulate recordAfter
+begins : (line : List ℕ) → length line ≡ textLineBytes → Holds line 0 (beginOf line)
+unfolding beginOf refusalBefore firstOf recordIn rowsIn tabulate recordAfter
 begins line e = record {
   long = omega arith;
   refusal-is = refl;
@@ -154,7 +154,7 @@ lines-of-next : (w : ℕ) → linesTo w + windowLength ≡ linesTo (w + 1)
 lines-of-next w = omega arith
 
 module _ (p block : List ℕ) (w : ℕ) (reading : Reading) (h : Holds p w reading) (whole : length block ≡ windowBytes) where
-  long-next : length (p ++ block) ≡ lineBytes * linesTo (w + 1)
+  long-next : length (p ++ block) ≡ textLineBytes * linesTo (w + 1)
   long-next = rw length-append (omega (arith, h .long, whole))
 
   some-bytes : length block ≡ 0 → ⊥
@@ -171,29 +171,29 @@ module _ (p block : List ℕ) (w : ℕ) (reading : Reading) (h : Holds p w readi
         refusal-is =
             h .refusal-is
             ∙ sym (faults-stay p block w (h .long) windowLength (λ e. f (h .refusal-is ∙ e)))
-            ∙ ap (faultBefore (p ++ block)) (lines-of-next w);
+            ∙ ap (refusalBefore (p ++ block)) (lines-of-next w);
         goes-on = λ e. absurd (f e);
       })
 
   module _ (e : reading .refusal ≡ noRefusal) where
-    before : faultBefore p (linesTo w) ≡ noRefusal
+    before : refusalBefore p (linesTo w) ≡ noRefusal
     before = sym (h .refusal-is) ∙ e
 
-    faults-next : faultBefore (p ++ block) (linesTo (w + 1)) ≡ cond (eqb (faultOfLines block windowLength) noRefusal) (fullAt (linesTo w + (windowLength - 1))) (faultOfLines block windowLength)
-    faults-next = sym (ap (faultBefore (p ++ block)) (lines-of-next w)) ∙ faults-of-window p block w (h .long) before
+    faults-next : refusalBefore (p ++ block) (linesTo (w + 1)) ≡ cond (eqb (textLinesRefusal block windowLength) noRefusal) (fullAt (linesTo w + (windowLength - 1))) (textLinesRefusal block windowLength)
+    faults-next = sym (ap (refusalBefore (p ++ block)) (lines-of-next w)) ∙ faults-of-window p block w (h .long) before
 
-    fault-next : (faultOfLines block windowLength ≡ noRefusal → ⊥) → Holds (p ++ block) (w + 1) (blockOf reading block)
+    fault-next : (textLinesRefusal block windowLength ≡ noRefusal → ⊥) → Holds (p ++ block) (w + 1) (blockOf reading block)
     fault-next f =
-        let same : blockOf reading block ≡ refusedWith (faultOfLines block windowLength) reading =
+        let same : blockOf reading block ≡ refusedWith (textLinesRefusal block windowLength) reading =
         rw lines-are at (block-of-fault reading block e some-bytes (λ z. f (rw lines-are at z))) in
         rw same
         (record {
           long = long-next;
-          refusal-is = sym (faults-next ∙ rw (ne-eqb (faultOfLines block windowLength) noRefusal f));
+          refusal-is = sym (faults-next ∙ rw (ne-eqb (textLinesRefusal block windowLength) noRefusal f));
           goes-on = λ z. absurd (f z);
         })
 
-    module _ (none : faultOfLines block windowLength ≡ noRefusal) where
+    module _ (none : textLinesRefusal block windowLength ≡ noRefusal) where
       goes : GoesOn p w reading
       goes = h .goes-on e
 
@@ -248,32 +248,32 @@ module _ (p block : List ℕ) (w : ℕ) (reading : Reading) (h : Holds p w readi
           rw taken
           (record {
             long = long-next;
-            refusal-is = window-refusal ∙ full-is w count-le ∙ sym (faults-next ∙ rw (eq-eqb (faultOfLines block windowLength) noRefusal none));
+            refusal-is = window-refusal ∙ full-is w count-le ∙ sym (faults-next ∙ rw (eq-eqb (textLinesRefusal block windowLength) noRefusal none));
             goes-on = goes-next;
           })
 
   steps : Holds (p ++ block) (w + 1) (blockOf reading block)
   steps = by-refusal (ℕ-discrete (reading .refusal) noRefusal)
     where
-      by-lines : (e : reading .refusal ≡ noRefusal) → Dec (faultOfLines block windowLength ≡ noRefusal) → Holds (p ++ block) (w + 1) (blockOf reading block)
+      by-lines : (e : reading .refusal ≡ noRefusal) → Dec (textLinesRefusal block windowLength ≡ noRefusal) → Holds (p ++ block) (w + 1) (blockOf reading block)
       by-lines e (yes none) = window-next-holds e none
       by-lines e (no f) = fault-next e f
 
       by-refusal : Dec (reading .refusal ≡ noRefusal) → Holds (p ++ block) (w + 1) (blockOf reading block)
-      by-refusal (yes e) = by-lines e (ℕ-discrete (faultOfLines block windowLength) noRefusal)
+      by-refusal (yes e) = by-lines e (ℕ-discrete (textLinesRefusal block windowLength) noRefusal)
       by-refusal (no f) = refused-next f
 
 -- ---- the end
 
 -- a reading that a line's fault ended, and a text with that fault
-refused-output : (reading : Reading) (text : List ℕ) → reading .refusal ≤ wrongBufferLength → (reading .refusal ≡ noRefusal → ⊥) → faultBefore text (lineCountOf text) ≡ reading .refusal → outputOf reading ≡ harmlistOutput text
+refused-output : (reading : Reading) (text : List ℕ) → reading .refusal ≤ wrongBufferLength → (reading .refusal ≡ noRefusal → ⊥) → refusalBefore text (textLineCount text) ≡ reading .refusal → outputOf reading ≡ harmlistOutput text
 refused-output reading text le f same =
     output-of-fault reading (reading .refusal) (finish-of-refused reading le f) f
     ∙ sym (harmlist-of-fault text (reading .refusal) same f)
 
 module _ (p : List ℕ) (w : ℕ) (reading : Reading) (h : Holds p w reading) where
-  count-of : lineCountOf p ≡ linesTo w
-  unfolding lineCountOf
+  count-of : textLineCount p ≡ linesTo w
+  unfolding textLineCount
   count-of = rw (h .long) (omega arith)
 
   refusal-le : reading .refusal ≤ wrongBufferLength
@@ -283,7 +283,7 @@ module _ (p : List ℕ) (w : ℕ) (reading : Reading) (h : Holds p w reading) wh
     goes-at-end : GoesOn p w reading
     goes-at-end = h .goes-on e
 
-    none-of : faultBefore p (lineCountOf p) ≡ noRefusal
+    none-of : refusalBefore p (textLineCount p) ≡ noRefusal
     none-of = rw count-of (sym (h .refusal-is) ∙ e)
 
     windows-of : windowCount p ≡ w
@@ -302,12 +302,12 @@ module _ (p : List ℕ) (w : ℕ) (reading : Reading) (h : Holds p w reading) wh
 
         by-count : Dec (w ≡ 0) → outputOf reading ≡ harmlistOutput p
         by-count (yes z) =
-            let end : endFault (lineCountOf p) ≡ noWindow = rw (count-of, z) end-without-window in
+            let end : endRefusal (textLineCount p) ≡ noWindow = rw (count-of, z) end-without-window in
             output-of-fault reading noWindow (finish-of-none reading e (goes-at-end .sound) (goes-at-end .windows-are ∙ z)) no-window
             ∙ sym (harmlist-at-end p none-of noWindow end no-window)
         by-count (no f) =
             let some : 0 < w = omega arith in
-            let end : endFault (lineCountOf p) ≡ noRefusal = rw count-of (end-of-windows w some) in
+            let end : endRefusal (textLineCount p) ≡ noRefusal = rw count-of (end-of-windows w some) in
             output-of-none reading (finish-of-some reading e (goes-at-end .sound) (λ z. f (sym (goes-at-end .windows-are) ∙ z)))
             ∙ listing-is some
             ∙ sym (harmlist-of-none p none-of end)
@@ -322,14 +322,14 @@ module _ (p : List ℕ) (w : ℕ) (reading : Reading) (h : Holds p w reading) wh
   -- fewer bytes than a window's lines after it
   module _ (block : List ℕ) (some : 0 < length block) (short : length block < windowBytes) where
     lines-left : ℕ
-    lines-left = (length block + columnWidth) / lineBytes
+    lines-left = (length block + columnWidth) / textLineBytes
 
     lines-left-bounds : (0 < lines-left) × (lines-left ≤ windowLength)
     unfolding lines-left
     lines-left-bounds = (omega arith, omega arith)
 
-    count-short : lineCountOf (p ++ block) ≡ linesTo w + lines-left
-    unfolding lineCountOf lines-left
+    count-short : textLineCount (p ++ block) ≡ linesTo w + lines-left
+    unfolding textLineCount lines-left
     count-short = rw length-append (omega (arith, h .long))
 
     lines-short : blockLines block ≡ lines-left
@@ -340,15 +340,15 @@ module _ (p : List ℕ) (w : ℕ) (reading : Reading) (h : Holds p w reading) wh
       none-empty : length block ≡ 0 → ⊥
       none-empty z = omega arith
 
-      faults-short : faultBefore (p ++ block) (lineCountOf (p ++ block)) ≡ faultOfLines block lines-left
+      faults-short : refusalBefore (p ++ block) (textLineCount (p ++ block)) ≡ textLinesRefusal block lines-left
       faults-short =
           rw count-short (faults-of-short p block w (h .long) (sym (h .refusal-is) ∙ e) lines-left (lines-left-bounds .1) short)
 
-      by-lines-left : Dec (faultOfLines block lines-left ≡ noRefusal) → outputOf (blockOf reading block) ≡ harmlistOutput (p ++ block)
+      by-lines-left : Dec (textLinesRefusal block lines-left ≡ noRefusal) → outputOf (blockOf reading block) ≡ harmlistOutput (p ++ block)
       by-lines-left (yes none) =
           let same = block-of-short reading block e none-empty (rw lines-short none) short in
           let few = short-lines block lines-left (lines-left-bounds .1) short none in
-          let end : endFault (lineCountOf (p ++ block)) ≡ shortWindow = rw count-short (end-of-short w lines-left (lines-left-bounds .0) few) in
+          let end : endRefusal (textLineCount (p ++ block)) ≡ shortWindow = rw count-short (end-of-short w lines-left (lines-left-bounds .0) few) in
           ap outputOf same
           ∙ output-of-fault (refusedWith shortWindow reading) shortWindow (finish-of-refused (refusedWith shortWindow reading) (omega arith) is-short) is-short
           ∙ sym (harmlist-at-end (p ++ block) (faults-short ∙ none) shortWindow end is-short)
@@ -356,16 +356,16 @@ module _ (p : List ℕ) (w : ℕ) (reading : Reading) (h : Holds p w reading) wh
           is-short : shortWindow ≡ noRefusal → ⊥
           is-short z = omega arith
       by-lines-left (no f) =
-          let same : blockOf reading block ≡ refusedWith (faultOfLines block lines-left) reading =
+          let same : blockOf reading block ≡ refusedWith (textLinesRefusal block lines-left) reading =
           rw lines-short at (block-of-fault reading block e none-empty (λ z. f (rw lines-short at z))) in
           ap outputOf same
-          ∙ refused-output (refusedWith (faultOfLines block lines-left) reading) (p ++ block) (lines-fault-le block lines-left) f faults-short
+          ∙ refused-output (refusedWith (textLinesRefusal block lines-left) reading) (p ++ block) (lines-fault-le block lines-left) f faults-short
 
     ends-short : outputOf (blockOf reading block) ≡ harmlistOutput (p ++ block)
     ends-short = by-refusal (ℕ-discrete (reading .refusal) noRefusal)
       where
         by-refusal : Dec (reading .refusal ≡ noRefusal) → outputOf (blockOf reading block) ≡ harmlistOutput (p ++ block)
-        by-refusal (yes e) = by-lines-left e (ℕ-discrete (faultOfLines block lines-left) noRefusal)
+        by-refusal (yes e) = by-lines-left e (ℕ-discrete (textLinesRefusal block lines-left) noRefusal)
         by-refusal (no f) =
             ap outputOf (block-of-refused reading block f)
             ∙ refused-output reading (p ++ block) refusal-le f
@@ -406,17 +406,17 @@ follows (block ∷ next ∷ blocks) p w reading h cut =
     ∙ ap harmlistOutput (append-assoc p block (joined (next ∷ blocks)))
 
 -- an input that is shorter than a line
-short-first-fault : (first : List ℕ) → length first < lineBytes → lineFault first 0 ≡ notAColumn
+short-first-fault : (first : List ℕ) → length first < textLineBytes → textLineRefusal first 0 ≡ notAColumn
 unfolding isNone
 short-first-fault first h = first-line-fault first ∙ rw (number-of-cut first 0 (omega arith))
 
-short-first : (first : List ℕ) → length first < lineBytes → outputOf (beginOf first) ≡ harmlistOutput first
-unfolding beginOf lineCountOf faultBefore firstOf endFault
+short-first : (first : List ℕ) → length first < textLineBytes → outputOf (beginOf first) ≡ harmlistOutput first
+unfolding beginOf textLineCount refusalBefore firstOf endRefusal
 short-first first h =
     output-of-fault (beginOf first) notAColumn (finish-of-refused (beginOf first) (rw fault (omega arith)) (rw fault no-line) ∙ fault) no-line
     ∙ sym (by-length (ℕ-discrete (length first) 0))
   where
-    fault : lineFault first 0 ≡ notAColumn
+    fault : textLineRefusal first 0 ≡ notAColumn
     fault = short-first-fault first h
 
     no-line : notAColumn ≡ noRefusal → ⊥
@@ -424,18 +424,18 @@ short-first first h =
 
     by-length : Dec (length first ≡ 0) → harmlistOutput first ≡ refusalLine notAColumn
     by-length (yes z) =
-        let count : lineCountOf first ≡ 0 = rw z in
+        let count : textLineCount first ≡ 0 = rw z in
         harmlist-at-end first (rw count) notAColumn (rw count) no-line
     by-length (no f) =
-        let count : lineCountOf first ≡ 1 = omega arith in
+        let count : textLineCount first ≡ 1 = omega arith in
         harmlist-of-fault first notAColumn (rw count fault) no-line
 
 pub follows-definition : FollowsDefinition
 unfolding readingAfter joined
 follows-definition first blocks cut =
     ⊎-elim
-    (λ (c : (length first ≡ lineBytes) × WholeButLast blocks). follows blocks first 0 (beginOf first) (begins first (c .0)) (c .1))
-    (λ (c : (length first < lineBytes) × (blocks ≡ [])).
+    (λ (c : (length first ≡ textLineBytes) × WholeButLast blocks). follows blocks first 0 (beginOf first) (begins first (c .0)) (c .1))
+    (λ (c : (length first < textLineBytes) × (blocks ≡ [])).
     rw (c .1) (short-first first (c .0) ∙ ap harmlistOutput (sym (append-nil first))))
     cut
 

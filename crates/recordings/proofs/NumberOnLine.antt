@@ -1,4 +1,4 @@
--- The number on a line of a text, as the reader finds it: the line is cut off, or has no newline at its end, or has a column. Assumes nothing.
+-- The number on a line of a text, as the reader finds it: the line is cut off, or has no newline at its end, or has a column.
 use mathlib.Core.List.{List}
 use mathlib.Core.Option.{none}
 use mathlib.Core.Path.{_≡_, sym, _∙_}
@@ -9,52 +9,52 @@ use lib.ListN.{length, getD, take, drop, length-drop}
 use lib.Seq.{take-take, getD-take, getD-drop, length-take-le, take-all}
 use Rattle.columns.specs.Text.{newline}
 use Rattle.columns.specs.Column.{columnNumber}
-use Rattle.columns.specs.Calls.{columnWidth, readingOf, columnReadOf}
-use Rattle.recordings.specs.Lines.{lineBytes, lineAt, lineNumber}
+use Rattle.columns.specs.Calls.{columnWidth, readingOf, columnReadAnswer}
+use Rattle.recordings.specs.Lines.{textLineBytes, textLineAt, textLineNumber}
 
 module _ (text : List ℕ) (i : ℕ) where
   abbrev rest : List ℕ
-  rest = drop (lineBytes * i) text
+  rest = drop (textLineBytes * i) text
 
-  length-of-cut : length text - lineBytes * i < lineBytes → length (take lineBytes rest) ≡ lineBytes → ⊥
+  length-of-cut : length text - textLineBytes * i < textLineBytes → length (take textLineBytes rest) ≡ textLineBytes → ⊥
   length-of-cut h e =
-      let all = take-all lineBytes rest (rw (length-drop (lineBytes * i) text) (omega arith)) in
-      let short : length rest ≡ lineBytes = rw all at e in
-      omega (arith, length-drop (lineBytes * i) text)
+      let all = take-all textLineBytes rest (rw (length-drop (textLineBytes * i) text) (omega arith)) in
+      let short : length rest ≡ textLineBytes = rw all at e in
+      omega (arith, length-drop (textLineBytes * i) text)
 
-  pub number-of-cut : length text - lineBytes * i < lineBytes → lineNumber (lineAt text i) ≡ none
-  unfolding lineNumber lineAt
-  number-of-cut h = rw (ne-eqb (length (take lineBytes rest)) lineBytes (length-of-cut h))
+  pub number-of-cut : length text - textLineBytes * i < textLineBytes → textLineNumber (textLineAt text i) ≡ none
+  unfolding textLineNumber textLineAt
+  number-of-cut h = rw (ne-eqb (length (take textLineBytes rest)) textLineBytes (length-of-cut h))
 
-  module _ (fits : lineBytes ≤ length text - lineBytes * i) where
-    length-of-line : length (take lineBytes rest) ≡ lineBytes
-    length-of-line = length-take-le lineBytes rest (rw (length-drop (lineBytes * i) text) fits)
+  module _ (fits : textLineBytes ≤ length text - textLineBytes * i) where
+    length-of-line : length (take textLineBytes rest) ≡ textLineBytes
+    length-of-line = length-take-le textLineBytes rest (rw (length-drop (textLineBytes * i) text) fits)
 
-    last-byte : getD (take lineBytes rest) columnWidth 0 ≡ getD text (lineBytes * i + columnWidth) 0
-    last-byte = getD-take lineBytes rest columnWidth 0 (omega arith) ∙ getD-drop (lineBytes * i) text columnWidth 0
+    last-byte : getD (take textLineBytes rest) columnWidth 0 ≡ getD text (textLineBytes * i + columnWidth) 0
+    last-byte = getD-take textLineBytes rest columnWidth 0 (omega arith) ∙ getD-drop (textLineBytes * i) text columnWidth 0
 
-    pub number-without-newline : (getD text (lineBytes * i + columnWidth) 0 ≡ newline → ⊥) → lineNumber (lineAt text i) ≡ none
-    unfolding lineNumber lineAt
+    pub number-without-newline : (getD text (textLineBytes * i + columnWidth) 0 ≡ newline → ⊥) → textLineNumber (textLineAt text i) ≡ none
+    unfolding textLineNumber textLineAt
     number-without-newline f =
         rw (
-          eq-eqb (length (take lineBytes rest)) lineBytes length-of-line,
-          ne-eqb (getD (take lineBytes rest) columnWidth 0) newline (λ e. f (sym last-byte ∙ e)),
+          eq-eqb (length (take textLineBytes rest)) textLineBytes length-of-line,
+          ne-eqb (getD (take textLineBytes rest) columnWidth 0) newline (λ e. f (sym last-byte ∙ e)),
         )
 
-    pub number-of-column : getD text (lineBytes * i + columnWidth) 0 ≡ newline → lineNumber (lineAt text i) ≡ columnNumber (take columnWidth rest)
-    unfolding lineNumber lineAt
+    pub number-of-column : getD text (textLineBytes * i + columnWidth) 0 ≡ newline → textLineNumber (textLineAt text i) ≡ columnNumber (take columnWidth rest)
+    unfolding textLineNumber textLineAt
     number-of-column e =
         rw (
-          eq-eqb (length (take lineBytes rest)) lineBytes length-of-line,
-          eq-eqb (getD (take lineBytes rest) columnWidth 0) newline (last-byte ∙ e),
-          take-take columnWidth lineBytes rest (omega arith),
+          eq-eqb (length (take textLineBytes rest)) textLineBytes length-of-line,
+          eq-eqb (getD (take textLineBytes rest) columnWidth 0) newline (last-byte ∙ e),
+          take-take columnWidth textLineBytes rest (omega arith),
         )
 
     -- what the call that reads a column answers for the line's column
-    pub column-read : columnReadOf (take (lineBytes * i + columnWidth - lineBytes * i) rest) ≡ readingOf (columnNumber (take columnWidth rest))
-    unfolding columnReadOf
+    pub column-read : columnReadAnswer (take (textLineBytes * i + columnWidth - textLineBytes * i) rest) ≡ readingOf (columnNumber (take columnWidth rest))
+    unfolding columnReadAnswer
     column-read =
-        let width : lineBytes * i + columnWidth - lineBytes * i ≡ columnWidth = omega arith in
+        let width : textLineBytes * i + columnWidth - textLineBytes * i ≡ columnWidth = omega arith in
         let long : length (take columnWidth rest) ≡ columnWidth =
-        length-take-le columnWidth rest (rw (length-drop (lineBytes * i) text) (omega arith)) in
+        length-take-le columnWidth rest (rw (length-drop (textLineBytes * i) text) (omega arith)) in
         rw (width, eq-eqb (length (take columnWidth rest)) columnWidth long)

@@ -1,4 +1,4 @@
--- The sample on a line, by the number on it. Assumes nothing.
+-- The sample on a line, by the number on it.
 use mathlib.Core.Bool.{true, false, cond, true≢false}
 use mathlib.Core.List.{List}
 use mathlib.Core.Option.{Option, none, some}
@@ -15,9 +15,9 @@ use Rattle.columns.specs.Calls.{readingOf}
 use Rattle.spectrum.specs.Line.{windowLength}
 use Rattle.spectrum.specs.Spectrum.{largestSample, outOfRange}
 use Rattle.refusals.proofs.Answers.{no-fault}
-use Rattle.recordings.specs.Lines.{lineAt, lineNumber, numberOr0, numberAt}
+use Rattle.recordings.specs.Lines.{textLineAt, textLineNumber, numberOr0, numberAt}
 use Rattle.recordings.specs.Faults.{isNone}
-use Rattle.recordings.specs.Reading.{sampleFault, faultOfLines, samplesOf}
+use Rattle.recordings.specs.Reading.{sampleRefusal, textLinesRefusal, samplesOf}
 use Rattle.recordings.specs.Steps.{sampleOn}
 use Rattle.recordings.proofs.FirstOf.{none-at}
 
@@ -26,26 +26,26 @@ unfolding outOfRange
 zero-in-range = refl
 
 module _ (line : List ℕ) where
-  pub sample-out : (o : Option ℤ) → lineNumber line ≡ o → outOfRange (readingOf o .value) ≡ true → record { refusal = sampleOutOfRange; value = pos 0 } ≡ sampleOn line
-  unfolding sampleOn sampleFault isNone numberOr0
+  pub sample-out : (o : Option ℤ) → textLineNumber line ≡ o → outOfRange (readingOf o .value) ≡ true → record { refusal = sampleOutOfRange; value = pos 0 } ≡ sampleOn line
+  unfolding sampleOn sampleRefusal isNone numberOr0
   sample-out none e h = absurd (true≢false (sym h ∙ zero-in-range))
   sample-out (some z) e h = rw (e, h)
 
-  pub sample-in : (o : Option ℤ) → lineNumber line ≡ o → outOfRange (readingOf o .value) ≡ false → readingOf o ≡ sampleOn line
-  unfolding sampleOn sampleFault isNone numberOr0
+  pub sample-in : (o : Option ℤ) → textLineNumber line ≡ o → outOfRange (readingOf o .value) ≡ false → readingOf o ≡ sampleOn line
+  unfolding sampleOn sampleRefusal isNone numberOr0
   sample-in none e h = rw e
   sample-in (some z) e h = rw (e, h)
 
   -- a line without a fault has a sample in range
-  pub in-range-of-none : sampleFault line ≡ noRefusal → outOfRange (numberOr0 (lineNumber line)) ≡ false
-  unfolding sampleFault
+  pub in-range-of-none : sampleRefusal line ≡ noRefusal → outOfRange (numberOr0 (textLineNumber line)) ≡ false
+  unfolding sampleRefusal
   in-range-of-none e =
-      let out = outOfRange (numberOr0 (lineNumber line)) in
+      let out = outOfRange (numberOr0 (textLineNumber line)) in
       no-fault out sampleOutOfRange noRefusal (omega arith)
-      (no-fault (isNone (lineNumber line)) notAColumn (cond out sampleOutOfRange noRefusal) (omega arith) e .1)
+      (no-fault (isNone (textLineNumber line)) notAColumn (cond out sampleOutOfRange noRefusal) (omega arith) e .1)
       .0
 
-  pub sample-of-none : sampleFault line ≡ noRefusal → sampleOn line .value ≡ numberOr0 (lineNumber line)
+  pub sample-of-none : sampleRefusal line ≡ noRefusal → sampleOn line .value ≡ numberOr0 (textLineNumber line)
   unfolding sampleOn
   sample-of-none e = rw e
 
@@ -58,11 +58,11 @@ unfolding samplesOf
 length-samples block = length-tabulate windowLength (numberAt block)
 
 -- the samples of a block without a fault are in range
-pub samples-in-range : (block : List ℕ) → faultOfLines block windowLength ≡ noRefusal → anyOf outOfRange (samplesOf block) ≡ false
-unfolding faultOfLines samplesOf numberAt
+pub samples-in-range : (block : List ℕ) → textLinesRefusal block windowLength ≡ noRefusal → anyOf outOfRange (samplesOf block) ≡ false
+unfolding textLinesRefusal samplesOf numberAt
 samples-in-range block e =
     anyOf-false outOfRange (tabulate windowLength (numberAt block)) (pos 0)
     (λ i h.
     let inside : i < windowLength = rw (length-tabulate windowLength (numberAt block)) at h in
     rw (getD-tabulate windowLength (numberAt block) i (pos 0) inside)
-    (in-range-of-none (lineAt block i) (none-at (λ j. sampleFault (lineAt block j)) windowLength i e inside)))
+    (in-range-of-none (textLineAt block i) (none-at (λ j. sampleRefusal (textLineAt block j)) windowLength i e inside)))

@@ -1,4 +1,4 @@
--- The lines of a text that is put together from two: those of the first part and those after it, and what is read of them. Assumes nothing.
+-- The lines of a text that is put together from two: those of the first part and those after it, and what is read of them.
 use mathlib.Core.Bool.{Bool, true, false, cond}
 use mathlib.Core.List.{List, _++_}
 use mathlib.Core.Path.{_≡_, refl, ap}
@@ -16,10 +16,10 @@ use Rattle.spectrum.specs.Spectrum.{outOfRange}
 use Rattle.observation.specs.Soundness.{mostWindows}
 use Rattle.observation.specs.Calls.{freshAnswer}
 use Rattle.observation.specs.CallList.{recordAfter}
-use Rattle.recordings.specs.Lines.{lineBytes, lineAt, lineNumber, numberOr0, numberAt}
-use Rattle.recordings.specs.Faults.{isNone, numberFault, lineFault, faultBefore}
+use Rattle.recordings.specs.Lines.{textLineBytes, textLineAt, textLineNumber, numberOr0, numberAt}
+use Rattle.recordings.specs.Faults.{isNone, numberRefusal, textLineRefusal, refusalBefore}
 use Rattle.recordings.specs.Output.{systemIn, windowIn, rowsIn, recordIn}
-use Rattle.recordings.specs.Reading.{sampleFault, samplesOf}
+use Rattle.recordings.specs.Reading.{sampleRefusal, samplesOf}
 use Rattle.recordings.proofs.FirstOf.{first-same}
 
 -- the number of lines of the system and w windows
@@ -31,38 +31,38 @@ unfolding tabulate
 tabulate-same zero f g h = refl
 tabulate-same (suc n) f g h = rw (tabulate-same n f g (λ i l. h i (omega arith)), h n (omega arith))
 
-number-same : (t u : List ℕ) (i j : ℕ) → lineAt t i ≡ lineAt u j → numberAt t i ≡ numberAt u j
+number-same : (t u : List ℕ) (i j : ℕ) → textLineAt t i ≡ textLineAt u j → numberAt t i ≡ numberAt u j
 unfolding numberAt
 number-same t u i j e = rw e
 
-fault-same : (t u : List ℕ) (i : ℕ) → lineAt t i ≡ lineAt u i → lineFault t i ≡ lineFault u i
-unfolding lineFault
+fault-same : (t u : List ℕ) (i : ℕ) → textLineAt t i ≡ textLineAt u i → textLineRefusal t i ≡ textLineRefusal u i
+unfolding textLineRefusal
 fault-same t u i e = rw e
 
 module _ (p q : List ℕ) where
-  line-before : (i : ℕ) → lineBytes * i + lineBytes ≤ length p → lineAt (p ++ q) i ≡ lineAt p i
-  unfolding lineAt
+  line-before : (i : ℕ) → textLineBytes * i + textLineBytes ≤ length p → textLineAt (p ++ q) i ≡ textLineAt p i
+  unfolding textLineAt
   line-before i h =
-      rw (drop-append-le (lineBytes * i) p q (omega arith))
-      (take-append-le lineBytes (drop (lineBytes * i) p) q (rw (length-drop (lineBytes * i) p) (omega arith)))
+      rw (drop-append-le (textLineBytes * i) p q (omega arith))
+      (take-append-le textLineBytes (drop (textLineBytes * i) p) q (rw (length-drop (textLineBytes * i) p) (omega arith)))
 
-  pub line-after : (n j : ℕ) → length p ≡ lineBytes * n → lineAt (p ++ q) (n + j) ≡ lineAt q j
-  unfolding lineAt
+  pub line-after : (n j : ℕ) → length p ≡ textLineBytes * n → textLineAt (p ++ q) (n + j) ≡ textLineAt q j
+  unfolding textLineAt
   line-after n j e =
-      let place : lineBytes * (n + j) ≡ length p + lineBytes * j = omega arith in
-      rw (place, drop-append-add p q (lineBytes * j))
+      let place : textLineBytes * (n + j) ≡ length p + textLineBytes * j = omega arith in
+      rw (place, drop-append-add p q (textLineBytes * j))
 
-  pub fault-of-front : (n : ℕ) → lineBytes * n ≤ length p → faultBefore (p ++ q) n ≡ faultBefore p n
-  unfolding faultBefore
+  pub fault-of-front : (n : ℕ) → textLineBytes * n ≤ length p → refusalBefore (p ++ q) n ≡ refusalBefore p n
+  unfolding refusalBefore
   fault-of-front n h =
-      first-same (lineFault (p ++ q)) (lineFault p) n
+      first-same (textLineRefusal (p ++ q)) (textLineRefusal p) n
       (λ i l. fault-same (p ++ q) p i (line-before i (omega arith)))
 
-  pub system-of-front : lineBytes ≤ length p → systemIn (p ++ q) ≡ systemIn p
+  pub system-of-front : textLineBytes ≤ length p → systemIn (p ++ q) ≡ systemIn p
   unfolding systemIn
   system-of-front h = ap natAbs (number-same (p ++ q) p 0 0 (line-before 0 (omega arith)))
 
-  window-of-front : (w v : ℕ) → length p ≡ lineBytes * linesTo w → v < w → windowIn (p ++ q) v ≡ windowIn p v
+  window-of-front : (w v : ℕ) → length p ≡ textLineBytes * linesTo w → v < w → windowIn (p ++ q) v ≡ windowIn p v
   unfolding windowIn
   window-of-front w v e l =
       tabulate-same windowLength
@@ -71,7 +71,7 @@ module _ (p q : List ℕ) where
       (λ j h. number-same (p ++ q) p _ _ (line-before (windowLength * v + j + 1) (omega arith)))
 
   -- the record of the windows in the first part
-  pub record-of-front : (w : ℕ) → length p ≡ lineBytes * linesTo w → recordIn (p ++ q) w ≡ recordIn p w
+  pub record-of-front : (w : ℕ) → length p ≡ textLineBytes * linesTo w → recordIn (p ++ q) w ≡ recordIn p w
   unfolding recordIn rowsIn
   record-of-front w e =
       rw (system-of-front (omega arith))
@@ -79,7 +79,7 @@ module _ (p q : List ℕ) where
       (tabulate-same w _ _ (λ v l. rw (window-of-front w v e l))))
 
   -- the window after it
-  pub window-after : (w : ℕ) → length p ≡ lineBytes * linesTo w → windowIn (p ++ q) w ≡ samplesOf q
+  pub window-after : (w : ℕ) → length p ≡ textLineBytes * linesTo w → windowIn (p ++ q) w ≡ samplesOf q
   unfolding windowIn samplesOf
   window-after w e =
       tabulate-same windowLength (λ j. numberAt (p ++ q) (windowLength * w + j + 1)) (numberAt q)
@@ -98,8 +98,8 @@ checks-in-order false false further = refl
 abbrev pub fullAt : ℕ → ℕ
 fullAt i = cond (eqb i (windowLength * (mostWindows + 1))) recordFull noRefusal
 
-pub line-fault-of-sample : (t : List ℕ) (i : ℕ) → (i ≡ 0 → ⊥) → lineFault t i ≡ cond (eqb (sampleFault (lineAt t i)) noRefusal) (fullAt i) (sampleFault (lineAt t i))
-unfolding lineFault numberFault sampleFault
+pub line-fault-of-sample : (t : List ℕ) (i : ℕ) → (i ≡ 0 → ⊥) → textLineRefusal t i ≡ cond (eqb (sampleRefusal (textLineAt t i)) noRefusal) (fullAt i) (sampleRefusal (textLineAt t i))
+unfolding textLineRefusal numberRefusal sampleRefusal
 line-fault-of-sample t i f =
     rw (ne-eqb i 0 f)
-    (checks-in-order (isNone (lineNumber (lineAt t i))) (outOfRange (numberOr0 (lineNumber (lineAt t i)))) (fullAt i))
+    (checks-in-order (isNone (textLineNumber (textLineAt t i))) (outOfRange (numberOr0 (textLineNumber (textLineAt t i)))) (fullAt i))

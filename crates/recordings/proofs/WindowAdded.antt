@@ -15,7 +15,7 @@ use Rattle.observation.specs.Calls.{addRowRefusal, addRowAnswer, withRow}
 use Rattle.observation.proofs.SoundRecord.{not-refused, accepted-not-full}
 use Rattle.recordings.specs.declared.Reading.{Reading}
 use Rattle.recordings.specs.Output.{rowOf}
-use Rattle.recordings.specs.Reading.{windowBytes, faultOfLines, blockLines, samplesOf, windowTaken, blockOf}
+use Rattle.recordings.specs.Reading.{windowBytes, textLinesRefusal, blockLines, samplesOf, windowTaken, blockOf}
 use Rattle.recordings.proofs.BlockLaws.{block-of-refused, block-of-fault, block-of-short, block-of-whole}
 
 pub answer-with-row : (o : Observation) (row : Row) → addRowRefusal o row ≡ noRefusal → addRowAnswer o row .observation ≡ withRow o row
@@ -48,7 +48,7 @@ pub block-added :
 block-added reading block some after = by-refusal (ℕ-discrete (reading .refusal) noRefusal)
   where
     by-length :
-        (e : reading .refusal ≡ noRefusal) → faultOfLines block (blockLines block) ≡ noRefusal →
+        (e : reading .refusal ≡ noRefusal) → textLinesRefusal block (blockLines block) ≡ noRefusal →
         Dec (windowBytes ≤ length block) → OneMore reading (blockOf reading block)
     by-length e none (yes whole) =
         let same = block-of-whole reading block e some none whole in
@@ -60,11 +60,11 @@ block-added reading block some after = by-refusal (ℕ-discrete (reading .refusa
 
     by-lines :
         (e : reading .refusal ≡ noRefusal) →
-        Dec (faultOfLines block (blockLines block) ≡ noRefusal) → OneMore reading (blockOf reading block)
+        Dec (textLinesRefusal block (blockLines block) ≡ noRefusal) → OneMore reading (blockOf reading block)
     by-lines e (yes none) = by-length e none (decLe windowBytes (length block))
     by-lines e (no f) =
         absurd (f (sym (ap (λ (r : Reading). r .refusal) (block-of-fault reading block e some f)) ∙ after))
 
     by-refusal : Dec (reading .refusal ≡ noRefusal) → OneMore reading (blockOf reading block)
-    by-refusal (yes e) = by-lines e (ℕ-discrete (faultOfLines block (blockLines block)) noRefusal)
+    by-refusal (yes e) = by-lines e (ℕ-discrete (textLinesRefusal block (blockLines block)) noRefusal)
     by-refusal (no f) = absurd (f (sym (ap (λ (r : Reading). r .refusal) (block-of-refused reading block f)) ∙ after))

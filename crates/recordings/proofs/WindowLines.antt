@@ -1,4 +1,4 @@
--- What the call `spectrum` leaves in the buffer of a window whose samples are in range. Assumes nothing.
+-- What the call `spectrum` leaves in the buffer of a window whose samples are in range.
 use mathlib.Core.Bool.{false}
 use mathlib.Core.List.{List}
 use mathlib.Core.Path.{_≡_}
@@ -9,9 +9,9 @@ use lib.ListN.{length}
 use lib.Seq.{take-all}
 use Rattle.algebra.specs.Lists.{anyOf}
 use Rattle.spectrum.specs.Line.{windowLength, lineCount, windowAt, linesOf}
-use Rattle.spectrum.specs.Spectrum.{outOfRange, spectrumRefusal, spectrumBuffer}
+use Rattle.spectrum.specs.Spectrum.{outOfRange, spectrumRefusal, spectrumExit}
 
-pub lines-of-window : (window : List ℤ) (buffer : List ℕ) → length window ≡ windowLength → length buffer ≡ lineCount → anyOf outOfRange window ≡ false → spectrumBuffer window 0 buffer ≡ linesOf window
-unfolding spectrumBuffer spectrumRefusal windowAt
+pub lines-of-window : (window : List ℤ) (buffer : List ℕ) → length window ≡ windowLength → length buffer ≡ lineCount → anyOf outOfRange window ≡ false → spectrumExit window 0 buffer ≡ linesOf window
+unfolding spectrumExit spectrumRefusal windowAt
 lines-of-window window buffer long count e =
     rw (take-all windowLength window (omega arith), long, count, e)

@@ -13,8 +13,8 @@ use Rattle.columns.specs.Text.{newline, bytesOf}
 use Rattle.columns.specs.Column.{isDigit, areDigits, isWhole, placeValue, wholeNumber, negativeNumber, signedNumber, afterBlanks, columnNumber}
 use Rattle.spectrum.specs.Spectrum.{outOfRange}
 use Rattle.rows.specs.Systems.{isSystem}
-use Rattle.recordings.specs.Lines.{lineCountOf, lineAt, lineNumber, numberOr0}
-use Rattle.recordings.specs.Faults.{noSystem, isNone, numberFault, lineFault, firstOf, faultBefore, endFault, inputRefusal}
+use Rattle.recordings.specs.Lines.{textLineCount, textLineAt, textLineNumber, numberOr0}
+use Rattle.recordings.specs.Faults.{noSystem, isNone, numberRefusal, textLineRefusal, firstOf, refusalBefore, endRefusal, inputRefusal}
 
 -- a text and a newline
 abbrev line : String → List ℕ
@@ -43,7 +43,7 @@ refusals =
     []
 
 pub worked-refusals : allPass (λ i input. eqb (inputRefusal (input .0)) (input .1)) refusals ≡ true
-unfolding inputRefusal endFault faultBefore firstOf lineFault numberFault isNone noSystem lineNumber lineAt numberOr0 lineCountOf bytesOf columnNumber signedNumber afterBlanks wholeNumber negativeNumber isWhole areDigits isDigit placeValue outOfRange isSystem
+unfolding inputRefusal endRefusal refusalBefore firstOf textLineRefusal numberRefusal isNone noSystem textLineNumber textLineAt numberOr0 textLineCount bytesOf columnNumber signedNumber afterBlanks wholeNumber negativeNumber isWhole areDigits isDigit placeValue outOfRange isSystem
 worked-refusals = refl
 
 -- The number on a line, the line's place, and its fault. The lines of window 45,001 are 92,160,001 to 92,162,048.
@@ -72,6 +72,6 @@ lineFaults =
     (some (pos 500), 92162049, 0) ∷
     []
 
-pub worked-lines : allPass (λ i row. eqb (numberFault (row .0) (row .1)) (row .2)) lineFaults ≡ true
-unfolding numberFault isNone noSystem numberOr0 outOfRange isSystem
+pub worked-lines : allPass (λ i row. eqb (numberRefusal (row .0) (row .1)) (row .2)) lineFaults ≡ true
+unfolding numberRefusal isNone noSystem numberOr0 outOfRange isSystem
 worked-lines = refl

@@ -1,4 +1,4 @@
--- What the buffer holds at the end of a reading, a law for each way. Assumes nothing.
+-- What the buffer holds at the end of a reading, a law for each way.
 use mathlib.Core.Bool.{Bool, true, false}
 use mathlib.Core.List.{List, _++_}
 use mathlib.Core.Path.{_≡_, refl, sym, ap, _∙_}
@@ -14,7 +14,7 @@ use Rattle.refusals.specs.declared.Answer.{Answer}
 use Rattle.columns.specs.Text.{bytesOf}
 use Rattle.columns.specs.Column.{numberText, fitsColumn}
 use Rattle.columns.specs.Listing.{listingText, refusalWidth, refusalLineLength, refusalLine}
-use Rattle.columns.specs.Calls.{listingRoom, listingFault, listingWritten, refusalLineWritten}
+use Rattle.columns.specs.Calls.{listingRoom, listingRefusal, listingExit, refusalLineExit}
 use Rattle.columns.proofs.Column.{length-of-text}
 use Rattle.columns.proofs.Lines.{order-fits}
 use Rattle.columns.proofs.Refusals.{write-fits, is-worked}
@@ -24,7 +24,7 @@ use Rattle.rows.specs.Rows.{largestValue}
 use Rattle.observation.proofs.SoundRecord.{sound-parts}
 use Rattle.observation.proofs.NoneAbove.{none-above-of-getD-le}
 use Rattle.recordings.specs.declared.Reading.{Reading}
-use Rattle.recordings.specs.Reading.{finishFault, outputOf, outputWritten}
+use Rattle.recordings.specs.Reading.{finishRefusal, outputOf, outputExit}
 use Rattle.recordings.proofs.Output.{finish-of-wide, finish-of-refused, finish-of-unsound, finish-of-none, finish-of-some, output-of-fault, output-of-none}
 
 pub sound-smoothed : (o : Observation) → isSound o ≡ true → noneAbove largestValue (o .smoothed) ≡ true
@@ -38,7 +38,7 @@ length-refusal-line fault h =
     let fits : fitsColumn refusalWidth (pos fault) ≡ true = order-fits fault (omega arith) in
     simp (length-append, length-of-text refusalWidth (pos fault) fits) (omega arith)
 
-pub refusal-line-written : (part : List ℕ) (fault : ℕ) → length part ≡ refusalLineLength → fault ≤ wrongBufferLength → refusalLineWritten part fault ≡ refusalLine fault
+pub refusal-line-written : (part : List ℕ) (fault : ℕ) → length part ≡ refusalLineLength → fault ≤ wrongBufferLength → refusalLineExit part fault ≡ refusalLine fault
 unfolding fitsColumn
 refusal-line-written part fault long h =
     is-worked _ _ _
@@ -47,8 +47,8 @@ refusal-line-written part fault long h =
 -- ---- the fault at the end
 
 record FaultParts (reading : Reading) : Type 0 where
-  le : finishFault reading ≤ wrongBufferLength
-  sound-of : finishFault reading ≡ noRefusal → isSound (reading .observation) ≡ true
+  le : finishRefusal reading ≤ wrongBufferLength
+  sound-of : finishRefusal reading ≡ noRefusal → isSound (reading .observation) ≡ true
 
 fault-parts : (reading : Reading) → FaultParts reading
 fault-parts reading = by-size (decLe (reading .refusal) wrongBufferLength)
@@ -75,10 +75,10 @@ fault-parts reading = by-size (decLe (reading .refusal) wrongBufferLength)
         let fault = finish-of-wide reading (omega arith) in
         record { le = rw fault (omega arith); sound-of = λ n. absurd (omega (arith, fault)) }
 
-pub finish-fault-le : (reading : Reading) → finishFault reading ≤ wrongBufferLength
+pub finish-fault-le : (reading : Reading) → finishRefusal reading ≤ wrongBufferLength
 finish-fault-le reading = fault-parts reading .le
 
-pub sound-of-finish : (reading : Reading) → finishFault reading ≡ noRefusal → isSound (reading .observation) ≡ true
+pub sound-of-finish : (reading : Reading) → finishRefusal reading ≡ noRefusal → isSound (reading .observation) ≡ true
 sound-of-finish reading = fault-parts reading .sound-of
 
 -- ---- the answer and the buffer
@@ -87,34 +87,34 @@ module _ (reading : Reading) (buffer : List ℕ) where
   -- what the contract says of an answer and of the buffer at exit
   abbrev Written : ℕ → ℕ → List ℕ → Type 0
   Written refusal count after =
-      (answer refusal count ≡ answer (listingFault buffer) (length (outputOf reading)))
-      × (after ≡ outputWritten reading buffer)
+      (answer refusal count ≡ answer (listingRefusal buffer) (length (outputOf reading)))
+      × (after ≡ outputExit reading buffer)
 
   pub written-not : length buffer < listingRoom → Written wrongBufferLength 0 buffer
-  unfolding listingFault outputWritten
+  unfolding listingRefusal outputExit
   written-not h = let e = lt-ltb (length buffer) listingRoom h in (rw e, rw e)
 
-  pub written-refusal : (last : List ℕ) → listingRoom ≤ length buffer → (finishFault reading ≡ noRefusal → ⊥) → last ≡ refusalLine (finishFault reading) → Written noRefusal refusalLineLength (last ++ drop refusalLineLength buffer)
-  unfolding listingFault outputWritten
+  pub written-refusal : (last : List ℕ) → listingRoom ≤ length buffer → (finishRefusal reading ≡ noRefusal → ⊥) → last ≡ refusalLine (finishRefusal reading) → Written noRefusal refusalLineLength (last ++ drop refusalLineLength buffer)
+  unfolding listingRefusal outputExit
   written-refusal last h f same =
       let e = le-ltb (length buffer) listingRoom h in
-      let text = output-of-fault reading (finishFault reading) refl f in
-      let long = length-refusal-line (finishFault reading) (finish-fault-le reading) in
+      let text = output-of-fault reading (finishRefusal reading) refl f in
+      let long = length-refusal-line (finishRefusal reading) (finish-fault-le reading) in
       (rw (e, text, long), rw (e, text, long, same))
 
-  pub answer-listing : finishFault reading ≡ noRefusal → answer (listingFault buffer) (length (listingText (reading .group) (reading .subgroup) (reading .observation .smoothed))) ≡ answer (listingFault buffer) (length (outputOf reading))
-  answer-listing e = ap (λ (text : List ℕ). answer (listingFault buffer) (length text)) (sym (output-of-none reading e))
+  pub answer-listing : finishRefusal reading ≡ noRefusal → answer (listingRefusal buffer) (length (listingText (reading .group) (reading .subgroup) (reading .observation .smoothed))) ≡ answer (listingRefusal buffer) (length (outputOf reading))
+  answer-listing e = ap (λ (text : List ℕ). answer (listingRefusal buffer) (length text)) (sym (output-of-none reading e))
 
-  pub written-listing : finishFault reading ≡ noRefusal → listingWritten buffer (reading .group) (reading .subgroup) (reading .observation .smoothed) ≡ outputWritten reading buffer
-  unfolding listingWritten outputWritten
+  pub written-listing : finishRefusal reading ≡ noRefusal → listingExit buffer (reading .group) (reading .subgroup) (reading .observation .smoothed) ≡ outputExit reading buffer
+  unfolding listingExit outputExit
   written-listing e = rw (output-of-none reading e)
 
 -- the bytes that are written lie in the buffer
-pub written-count-le : (reading : Reading) (buffer after : List ℕ) (answered : Answer) → answered ≡ answer (listingFault buffer) (length (outputOf reading)) → after ≡ outputWritten reading buffer → length after ≡ length buffer → answered .value ≤ length buffer
-unfolding listingFault outputWritten
+pub written-count-le : (reading : Reading) (buffer after : List ℕ) (answered : Answer) → answered ≡ answer (listingRefusal buffer) (length (outputOf reading)) → after ≡ outputExit reading buffer → length after ≡ length buffer → answered .value ≤ length buffer
+unfolding listingRefusal outputExit
 written-count-le reading buffer after answered e holds kept = rw e (by-room (decLt (length buffer) listingRoom))
   where
-    by-room : Dec (length buffer < listingRoom) → answer (listingFault buffer) (length (outputOf reading)) .value ≤ length buffer
+    by-room : Dec (length buffer < listingRoom) → answer (listingRefusal buffer) (length (outputOf reading)) .value ≤ length buffer
     by-room (yes h) = rw (lt-ltb (length buffer) listingRoom h) (omega arith)
     by-room (no f) =
         let room = le-ltb (length buffer) listingRoom (omega arith) in

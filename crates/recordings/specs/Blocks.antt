@@ -6,7 +6,7 @@ use Prim.Native.Nat.{ℕ, _≤_, _<_}
 use lib.ListN.{length}
 use Rattle.refusals.specs.Numbers.{noRefusal}
 use Rattle.recordings.specs.declared.Reading.{Reading}
-use Rattle.recordings.specs.Lines.{lineBytes}
+use Rattle.recordings.specs.Lines.{textLineBytes}
 use Rattle.recordings.specs.Output.{harmlistOutput}
 use Rattle.recordings.specs.Reading.{windowBytes, beginOf, blockOf, outputOf}
 
@@ -29,7 +29,7 @@ WholeButLast (block ∷ next ∷ blocks) = (length block ≡ windowBytes) × Who
 -- how an input is cut: a first line and such blocks, or fewer bytes than a line and nothing more
 abbrev pub CutInBlocks : List ℕ → List (List ℕ) → Type 0
 CutInBlocks first blocks =
-    ((length first ≡ lineBytes) × WholeButLast blocks) ⊎ ((length first < lineBytes) × (blocks ≡ []))
+    ((length first ≡ textLineBytes) × WholeButLast blocks) ⊎ ((length first < textLineBytes) × (blocks ≡ []))
 
 -- what the calls write for an input in blocks is what harmlist writes for it
 abbrev pub FollowsDefinition : Type 0

@@ -11,7 +11,7 @@ use Rattle.spectrum.specs.Line.{windowLength}
 use Rattle.spectrum.specs.Spectrum.{outOfRange}
 use Rattle.rows.specs.Systems.{isSystem}
 use Rattle.observation.specs.Soundness.{mostWindows}
-use Rattle.recordings.specs.Lines.{lineCountOf, lineAt, lineNumber, numberOr0}
+use Rattle.recordings.specs.Lines.{textLineCount, textLineAt, textLineNumber, numberOr0}
 
 -- a number that is no system; one with a minus is none
 unfoldable pub noSystem : ℤ → Bool
@@ -24,8 +24,8 @@ isNone none = true
 isNone (some z) = false
 
 -- "13 for another line (also one without its newline) .., 1, 3, 9 at the last line of window 45,001, and two on one line in that order": by the number on a line and the line's place; line 0 has the system, line i the i-th sample
-unfoldable pub numberFault : Option ℤ → ℕ → ℕ
-numberFault number i =
+unfoldable pub numberRefusal : Option ℤ → ℕ → ℕ
+numberRefusal number i =
     firstFault
     ((isNone number, notAColumn) ∷
     (eqb i 0 && noSystem (numberOr0 number), unknownSystem) ∷
@@ -34,8 +34,8 @@ numberFault number i =
     [])
 
 -- the fault of a line of the text
-unfoldable pub lineFault : List ℕ → ℕ → ℕ
-lineFault text i = numberFault (lineNumber (lineAt text i)) i
+unfoldable pub textLineRefusal : List ℕ → ℕ → ℕ
+textLineRefusal text i = numberRefusal (textLineNumber (textLineAt text i)) i
 
 -- the first fault of the places before n in their order, with the fault of each place given
 unfoldable pub firstOf : (ℕ → ℕ) → ℕ → ℕ
@@ -43,12 +43,12 @@ firstOf fault zero = noRefusal
 firstOf fault (suc n) = cond (eqb (firstOf fault n) noRefusal) (fault n) (firstOf fault n)
 
 -- the first fault of the lines before line n
-unfoldable pub faultBefore : List ℕ → ℕ → ℕ
-faultBefore text n = firstOf (lineFault text) n
+unfoldable pub refusalBefore : List ℕ → ℕ → ℕ
+refusalBefore text n = firstOf (textLineRefusal text) n
 
 -- "no system line" 13; "at the end 10 (no sample at all) or 2 (the last window is short)"
-unfoldable pub endFault : ℕ → ℕ
-endFault lines =
+unfoldable pub endRefusal : ℕ → ℕ
+endRefusal lines =
     firstFault
     ((eqb lines 0, notAColumn) ∷
     (eqb lines 1, noWindow) ∷
@@ -58,5 +58,5 @@ endFault lines =
 -- the refusal of an input, or none
 unfoldable pub inputRefusal : List ℕ → ℕ
 inputRefusal text =
-    cond (eqb (faultBefore text (lineCountOf text)) noRefusal) (endFault (lineCountOf text))
-    (faultBefore text (lineCountOf text))
+    cond (eqb (refusalBefore text (textLineCount text)) noRefusal) (endRefusal (textLineCount text))
+    (refusalBefore text (textLineCount text))

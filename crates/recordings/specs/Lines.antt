@@ -11,22 +11,22 @@ use Rattle.columns.specs.Column.{columnNumber}
 use Rattle.columns.specs.Calls.{columnWidth}
 
 -- the bytes of a line
-abbrev pub lineBytes : ℕ
-lineBytes = columnWidth + 1
+abbrev pub textLineBytes : ℕ
+textLineBytes = columnWidth + 1
 
 -- how many lines a text has, a last one that is cut off among them
-unfoldable pub lineCountOf : List ℕ → ℕ
-lineCountOf text = (length text + columnWidth) / lineBytes
+unfoldable pub textLineCount : List ℕ → ℕ
+textLineCount text = (length text + columnWidth) / textLineBytes
 
 -- The line with a number, counted from 0. Up to the first line that is wrong every line has 9 bytes, so cutting at every ninth byte finds that line where cutting at newlines does: a shorter or a longer line has its newline at another place.
-unfoldable pub lineAt : List ℕ → ℕ → List ℕ
-lineAt text i = take lineBytes (drop (lineBytes * i) text)
+unfoldable pub textLineAt : List ℕ → ℕ → List ℕ
+textLineAt text i = take textLineBytes (drop (textLineBytes * i) text)
 
 -- the number on a line, or none where the line is not a column and a newline
-unfoldable pub lineNumber : List ℕ → Option ℤ
-lineNumber line =
+unfoldable pub textLineNumber : List ℕ → Option ℤ
+textLineNumber line =
     cond
-    (eqb (length line) lineBytes && eqb (getD line columnWidth 0) newline)
+    (eqb (length line) textLineBytes && eqb (getD line columnWidth 0) newline)
     (columnNumber (take columnWidth line))
     none
 
@@ -36,4 +36,4 @@ numberOr0 none = pos 0
 numberOr0 (some z) = z
 
 unfoldable pub numberAt : List ℕ → ℕ → ℤ
-numberAt text i = numberOr0 (lineNumber (lineAt text i))
+numberAt text i = numberOr0 (textLineNumber (textLineAt text i))

@@ -15,7 +15,7 @@ use Rattle.rows.specs.declared.Row.{Row}
 use Rattle.observation.specs.declared.Observation.{Observation}
 use Rattle.observation.specs.Calls.{freshAnswer}
 use Rattle.observation.specs.CallList.{recordAfter}
-use Rattle.recordings.specs.Lines.{lineCountOf, numberAt}
+use Rattle.recordings.specs.Lines.{textLineCount, numberAt}
 use Rattle.recordings.specs.Faults.{inputRefusal}
 
 -- the system, on line 0
@@ -28,7 +28,7 @@ windowIn text w = tabulate windowLength (λ j. numberAt text (windowLength * w +
 
 -- how many whole windows there are
 unfoldable pub windowCount : List ℕ → ℕ
-windowCount text = (lineCountOf text - 1) / windowLength
+windowCount text = (textLineCount text - 1) / windowLength
 
 -- the 40 values of a kind for a window, with their system
 unfoldable pub rowOf : Kind → ℕ → List ℤ → Row

@@ -10,7 +10,7 @@ use Rattle.algebra.specs.Lists.{tabulate}
 use Rattle.refusals.specs.Numbers.{noRefusal, shortWindow, sampleOutOfRange, unsoundRecord, noWindow, notAColumn, wrongBufferLength}
 use Rattle.refusals.specs.Answers.{firstFault, unlessRefused}
 use Rattle.columns.specs.Listing.{listingText, refusalLine}
-use Rattle.columns.specs.Calls.{listingFault}
+use Rattle.columns.specs.Calls.{listingRefusal}
 use Rattle.spectrum.specs.Line.{windowLength}
 use Rattle.spectrum.specs.Spectrum.{outOfRange}
 use Rattle.groups.specs.declared.Kind.the-variants.{HarmonicGroup, HarmonicSubgroup}
@@ -19,44 +19,44 @@ use Rattle.observation.specs.Soundness.{isSound}
 use Rattle.observation.specs.Calls.{emptyRecord, addRowAnswer}
 use Rattle.rows.specs.Systems.{refusedSystem}
 use Rattle.recordings.specs.declared.Reading.{Reading}
-use Rattle.recordings.specs.Lines.{lineBytes, lineCountOf, lineAt, lineNumber, numberOr0, numberAt}
-use Rattle.recordings.specs.Faults.{isNone, lineFault, firstOf}
+use Rattle.recordings.specs.Lines.{textLineBytes, textLineCount, textLineAt, textLineNumber, numberOr0, numberAt}
+use Rattle.recordings.specs.Faults.{isNone, textLineRefusal, firstOf}
 use Rattle.recordings.specs.Output.{systemIn, rowOf}
 
 -- the bytes of a window's lines
 abbrev pub windowBytes : ℕ
-windowBytes = lineBytes * windowLength
+windowBytes = textLineBytes * windowLength
 
 -- the reading after the first line: 13, 1, or a fresh record of its system; "a refused fresh record: system 10, zeros"
 unfoldable pub beginOf : List ℕ → Reading
 beginOf line =
     record {
-      refusal = lineFault line 0;
-      observation = emptyRecord (unlessRefused (lineFault line 0) (systemIn line) refusedSystem);
+      refusal = textLineRefusal line 0;
+      observation = emptyRecord (unlessRefused (textLineRefusal line 0) (systemIn line) refusedSystem);
       group = replicate orderCount 0;
       subgroup = replicate orderCount 0;
     }
 
 -- the fault of a sample's line: 13, then 3
-unfoldable pub sampleFault : List ℕ → ℕ
-sampleFault line =
+unfoldable pub sampleRefusal : List ℕ → ℕ
+sampleRefusal line =
     firstFault
-    ((isNone (lineNumber line), notAColumn) ∷
-    (outOfRange (numberOr0 (lineNumber line)), sampleOutOfRange) ∷
+    ((isNone (textLineNumber line), notAColumn) ∷
+    (outOfRange (numberOr0 (textLineNumber line)), sampleOutOfRange) ∷
     [])
 
 -- the first fault of the first n lines of a block, all of them samples
-unfoldable pub faultOfLines : List ℕ → ℕ → ℕ
-faultOfLines block n = firstOf (λ j. sampleFault (lineAt block j)) n
+unfoldable pub textLinesRefusal : List ℕ → ℕ → ℕ
+textLinesRefusal block n = firstOf (λ j. sampleRefusal (textLineAt block j)) n
 
 -- how many lines of a block are looked at, a last one that is cut off among them: at most a window's
 unfoldable pub blockLines : List ℕ → ℕ
-blockLines block = lineCountOf (take windowBytes block)
+blockLines block = textLineCount (take windowBytes block)
 
 -- the fault of a block: that of a line, or 2 where the block is shorter than a window's lines
-unfoldable pub blockFault : List ℕ → ℕ
-blockFault block =
-    let fault = faultOfLines block (blockLines block) in
+unfoldable pub blockRefusal : List ℕ → ℕ
+blockRefusal block =
+    let fault = textLinesRefusal block (blockLines block) in
     firstFault
     ((not (eqb fault noRefusal), fault) ∷
     (ltb (length block) windowBytes, shortWindow) ∷
@@ -93,13 +93,13 @@ unfoldable pub blockOf : Reading → List ℕ → Reading
 blockOf reading block =
     cond (not (eqb (reading .refusal) noRefusal) || eqb (length block) 0)
     reading
-    (unlessRefused (blockFault block)
+    (unlessRefused (blockRefusal block)
     (windowTaken reading (samplesOf block))
-    (refusedWith (blockFault block) reading))
+    (refusedWith (blockRefusal block) reading))
 
 -- The refusal at the end: that of the reading, or 10 where no window came. A reading that no call gave, whose refusal is none of document 01's or whose record is not sound, is 7.
-unfoldable pub finishFault : Reading → ℕ
-finishFault reading =
+unfoldable pub finishRefusal : Reading → ℕ
+finishRefusal reading =
     firstFault
     ((ltb wrongBufferLength (reading .refusal), unsoundRecord) ∷
     (not (eqb (reading .refusal) noRefusal), reading .refusal) ∷
@@ -110,11 +110,11 @@ finishFault reading =
 -- what is written at the end: the listing, or only the refused line
 unfoldable pub outputOf : Reading → List ℕ
 outputOf reading =
-    unlessRefused (finishFault reading)
+    unlessRefused (finishRefusal reading)
     (listingText (reading .group) (reading .subgroup) (reading .observation .smoothed))
-    (refusalLine (finishFault reading))
+    (refusalLine (finishRefusal reading))
 
 -- what the buffer holds after that: "14 buffer shorter than 1,640 bytes", "bytes after them stay"
-unfoldable pub outputWritten : Reading → List ℕ → List ℕ
-outputWritten reading buffer =
-    unlessRefused (listingFault buffer) (outputOf reading ++ drop (length (outputOf reading)) buffer) buffer
+unfoldable pub outputExit : Reading → List ℕ → List ℕ
+outputExit reading buffer =
+    unlessRefused (listingRefusal buffer) (outputOf reading ++ drop (length (outputOf reading)) buffer) buffer

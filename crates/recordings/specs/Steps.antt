@@ -9,24 +9,24 @@ use lib.ListN.{drop, replicate}
 use Rattle.algebra.specs.Lists.{tabulate}
 use Rattle.refusals.specs.Numbers.{noRefusal}
 use Rattle.refusals.specs.Answers.{unlessRefused}
-use Rattle.columns.specs.declared.Number.{Number}
+use Rattle.columns.specs.declared.NumberAnswer.{NumberAnswer}
 use Rattle.rows.specs.Orders.{orderCount}
 use Rattle.observation.specs.declared.Observation.{Observation}
 use Rattle.recordings.specs.declared.Reading.{Reading}
-use Rattle.recordings.specs.Lines.{lineNumber, numberOr0, numberAt}
-use Rattle.recordings.specs.Reading.{sampleFault, faultOfLines}
+use Rattle.recordings.specs.Lines.{textLineNumber, numberOr0, numberAt}
+use Rattle.recordings.specs.Reading.{sampleRefusal, textLinesRefusal}
 
 -- the sample on a line, or the line's fault
-unfoldable pub sampleOn : List ℕ → Number
+unfoldable pub sampleOn : List ℕ → NumberAnswer
 sampleOn line =
     record {
-      refusal = sampleFault line;
-      value = unlessRefused (sampleFault line) (numberOr0 (lineNumber line)) (pos 0);
+      refusal = sampleRefusal line;
+      value = unlessRefused (sampleRefusal line) (numberOr0 (textLineNumber line)) (pos 0);
     }
 
 -- the samples on the first lines of a block are read to the front of a list: the answer is their first fault, and where there is none the list has them
 pub record ReadInto (block : List ℕ) (count : ℕ) (before : List ℤ) (fault : ℕ) (after : List ℤ) : Type 0 where
-  pub fault-is : fault ≡ faultOfLines block count
+  pub fault-is : fault ≡ textLinesRefusal block count
   pub samples-are : fault ≡ noRefusal → after ≡ tabulate count (numberAt block) ++ drop count before
 
 -- the larger of the two systems

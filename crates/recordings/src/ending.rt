@@ -4,27 +4,27 @@ use columns::LISTING_ROOM;
 use columns::REFUSAL_LINE_LENGTH;
 use columns::fill_listing;
 use columns::fill_refusal_line;
-use rows::ORDER_COUNT;
 use observation::is_sound;
 use refusals::Answer;
 use refusals::NO_REFUSAL;
 use refusals::NO_WINDOW;
 use refusals::UNSOUND_RECORD;
 use refusals::WRONG_BUFFER_LENGTH;
+use rows::ORDER_COUNT;
 ghost use mathlib.Core.Bool.{true};
 ghost use mathlib.Core.Path.{_≡_};
 ghost use lib.ListN.{length};
 ghost use Rattle.refusals.specs.Answers.{answer};
 ghost use Rattle.columns.specs.Listing.{listingText};
-ghost use Rattle.columns.specs.Calls.{listingFault, listingWritten};
+ghost use Rattle.columns.specs.Calls.{listingRefusal, listingExit};
 ghost use Rattle.observation.specs.Soundness.{noneAbove, isSound};
 ghost use Rattle.rows.specs.Rows.{largestValue};
-ghost use Rattle.recordings.specs.Reading.{finishFault, outputOf, outputWritten};
+ghost use Rattle.recordings.specs.Reading.{finishRefusal, outputOf, outputExit};
 
 // The refusal at the end: that of the reading, 7 for a reading that no call gave, 10 where no
 // window came.
 fn finish_fault(reading: Reading) -> u32
-    ensures { λ r. ⌜ r ≡ finishFault reading ⌝ }
+    ensures { λ r. ⌜ r ≡ finishRefusal reading ⌝ }
 {
     let refusal = reading.refusal;
     let observation = reading.observation;
@@ -62,8 +62,8 @@ fn narrowed(values: [u64; ORDER_COUNT]) -> [u32; ORDER_COUNT]
 // Writes the listing of a reading whose record is sound, and answers the count of its bytes.
 fn put_listing(reading: Reading, output: &mut [u8]) -> Answer
     requires { ⌜ isSound (reading .observation) ≡ true ⌝ }
-    ensures { λ r. ⌜ r ≡ answer (listingFault (now (output .entry))) (length (listingText (reading .group) (reading .subgroup) (reading .observation .smoothed))) ⌝ }
-    ensures { λ _. ⌜ now (output .exit) ≡ listingWritten (now (output .entry)) (reading .group) (reading .subgroup) (reading .observation .smoothed) ⌝ }
+    ensures { λ r. ⌜ r ≡ answer (listingRefusal (now (output .entry))) (length (listingText (reading .group) (reading .subgroup) (reading .observation .smoothed))) ⌝ }
+    ensures { λ _. ⌜ now (output .exit) ≡ listingExit (now (output .entry)) (reading .group) (reading .subgroup) (reading .observation .smoothed) ⌝ }
 {
     let group = reading.group;
     let subgroup = reading.subgroup;
@@ -76,8 +76,8 @@ fn put_listing(reading: Reading, output: &mut [u8]) -> Answer
 // Writes what harmlist writes for the input that was read, and answers the count of its bytes; the
 // bytes after them stay. Refused: 14 buffer shorter than 1,640 bytes.
 pub fn finish(reading: Reading, output: &mut [u8]) -> Answer
-    ensures { λ r. ⌜ r ≡ answer (listingFault (now (output .entry))) (length (outputOf reading)) ⌝ }
-    ensures { λ _. ⌜ now (output .exit) ≡ outputWritten reading (now (output .entry)) ⌝ }
+    ensures { λ r. ⌜ r ≡ answer (listingRefusal (now (output .entry))) (length (outputOf reading)) ⌝ }
+    ensures { λ _. ⌜ now (output .exit) ≡ outputExit reading (now (output .entry)) ⌝ }
 {
     if output.len() < LISTING_ROOM {
         return Answer {

@@ -11,8 +11,8 @@ pub use blocks::begin;
 pub use blocks::take_block;
 use columns::COLUMN_WIDTH;
 pub use ending::finish;
-use rows::ORDER_COUNT;
 use observation::Observation;
+use rows::ORDER_COUNT;
 use spectrum::WINDOW_LENGTH;
 
 // The bytes of a line: a column of 8 and a newline.

@@ -2,7 +2,7 @@
 use crate::LINE_BYTES;
 use columns::COLUMN_WIDTH;
 use columns::NEWLINE;
-use columns::Number;
+use columns::NumberAnswer;
 use columns::read_column;
 use refusals::NO_REFUSAL;
 use refusals::NOT_A_COLUMN;
@@ -12,24 +12,24 @@ ghost use mathlib.Core.Path.{_≡_};
 ghost use Prim.Native.Nat.{_+_, _*_, _≤_, _<_};
 ghost use lib.ListN.{length};
 ghost use Rattle.columns.specs.Calls.{readingOf};
-ghost use Rattle.recordings.specs.Lines.{lineBytes, lineAt, lineNumber};
+ghost use Rattle.recordings.specs.Lines.{textLineBytes, textLineAt, textLineNumber};
 ghost use Rattle.recordings.specs.Steps.{sampleOn, ReadInto};
 
 // The number on a line of the text, counted from 0, or 13.
-pub(crate) fn number_on_line(text: &[u8], line: usize) -> Number
-    requires { ⌜ lineBytes * line ≤ length (now text) ⌝ }
-    ensures { λ r. ⌜ r ≡ readingOf (lineNumber (lineAt (now (text .entry)) line)) ⌝ }
+pub(crate) fn number_on_line(text: &[u8], line: usize) -> NumberAnswer
+    requires { ⌜ textLineBytes * line ≤ length (now text) ⌝ }
+    ensures { λ r. ⌜ r ≡ readingOf (textLineNumber (textLineAt (now (text .entry)) line)) ⌝ }
 {
     let start = LINE_BYTES * line;
     if text.len() - start < LINE_BYTES {
-        return Number {
+        return NumberAnswer {
             refusal: NOT_A_COLUMN,
             value: 0,
         };
     }
     let end = start + COLUMN_WIDTH;
     if text[end] != NEWLINE {
-        return Number {
+        return NumberAnswer {
             refusal: NOT_A_COLUMN,
             value: 0,
         };
@@ -38,13 +38,13 @@ pub(crate) fn number_on_line(text: &[u8], line: usize) -> Number
 }
 
 // The sample on a line of the text, or 13, or 3.
-fn sample_on_line(text: &[u8], line: usize) -> Number
-    requires { ⌜ lineBytes * line ≤ length (now text) ⌝ }
-    ensures { λ r. ⌜ r ≡ sampleOn (lineAt (now (text .entry)) line) ⌝ }
+fn sample_on_line(text: &[u8], line: usize) -> NumberAnswer
+    requires { ⌜ textLineBytes * line ≤ length (now text) ⌝ }
+    ensures { λ r. ⌜ r ≡ sampleOn (textLineAt (now (text .entry)) line) ⌝ }
 {
     let number = number_on_line(text, line);
     if out_of_range(number.value) {
-        return Number {
+        return NumberAnswer {
             refusal: SAMPLE_OUT_OF_RANGE,
             value: 0,
         };
@@ -55,7 +55,7 @@ fn sample_on_line(text: &[u8], line: usize) -> Number
 // Reads the samples on the first lines of the block, and answers the first fault.
 pub(crate) fn read_samples(block: &[u8], count: usize, samples: &mut [i32]) -> u32
     requires { ⌜ count ≤ length (now samples) ⌝ }
-    requires { ⌜ lineBytes * count < length (now block) + lineBytes ⌝ }
+    requires { ⌜ textLineBytes * count < length (now block) + textLineBytes ⌝ }
     ensures { λ r. ⌜ ReadInto (now (block .entry)) count (now (samples .entry)) r (now (samples .exit)) ⌝ }
 {
     let mut line = 0;

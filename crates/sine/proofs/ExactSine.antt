@@ -1,5 +1,4 @@
 -- The exact sine: its series takes away no more than it adds, and its decimals at five indices, found by another program.
--- Assumes nothing.
 use mathlib.Core.Path.{_≡_, refl}
 use mathlib.Core.List.{[], _∷_, map}
 use Prim.Native.Nat.{ℕ, _+_, _*_, _/_, _^_, _≤_, _<_}

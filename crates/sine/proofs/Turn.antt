@@ -1,5 +1,4 @@
 -- A turn made of its first quarter: what holds over the quarter holds at every index, and the wave repeats after a turn.
--- Assumes nothing.
 use mathlib.Core.Path.{_≡_}
 use mathlib.Core.Logic.{_⊎_, inl, inr, ⊎-elim}
 use Prim.Native.Nat.{ℕ, _-_, _%_, _≤_, _<_}

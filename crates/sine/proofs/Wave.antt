@@ -1,5 +1,5 @@
 -- The table's sine: its bound, its distance from the exact sine, its period, its list, and worked values.
--- What holds of every index is shown over the quarter once. Assumes nothing.
+-- What holds of every index is shown over the quarter once.
 use mathlib.Core.Path.{_≡_, refl, sym, ap, _∙_}
 use mathlib.Core.Logic.{⊎-elim}
 use mathlib.Core.List.{[], _∷_, map}

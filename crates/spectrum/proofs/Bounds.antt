@@ -1,6 +1,5 @@
 -- How large the sums and the lines of a window in range are: a sum is below 2^58, a rounded sum at most 2^29, a line at most 2^59.
 -- A place past the window's end reads as 0, which is in range too, so the window may have any length.
--- Assumes nothing.
 use mathlib.Core.Bool.{false}
 use mathlib.Core.List.{List}
 use mathlib.Core.Path.{_≡_}
@@ -19,7 +18,8 @@ use Rattle.algebra.proofs.Rounding.{natAbs-nearestℤ-le, nearest-le}
 use Rattle.algebra.proofs.SumTo.{sumTo-natAbs-le}
 use Rattle.sine.specs.Wave.{tableSine, tableCosine, fullScale}
 use Rattle.sine.proofs.Wave.{tableSine-le, tableCosine-le}
-use Rattle.spectrum.specs.Line.{windowLength, lineSum, sumScale, roundedSum, square, lineOf}
+use Rattle.spectrum.specs.Line.{windowLength, lineSum, sumScale, roundedSum, lineOf}
+use Rattle.algebra.specs.Integers.{square}
 use Rattle.spectrum.specs.Spectrum.{largestSample, outOfRange}
 
 -- summand j of the sum of line k

@@ -1,6 +1,6 @@
 -- How far a rounded sum is from the exact one (document 01, demand 3; the step from the table to a line): at most three quarters.
 -- The table is within half a unit of the exact wave at each index, which moves a sum of 2,048 samples in range by less than a quarter once it is divided by 2^29; the rounding adds a half.
--- All is stated over whole numbers: the exact sums are numerators over the exact sine's denominator. Assumes nothing.
+-- All is stated over whole numbers: the exact sums are numerators over the exact sine's denominator.
 use mathlib.Core.Bool.{false}
 use mathlib.Core.List.{List, [], _∷_}
 use mathlib.Core.Path.{_≡_, sym, ap, ap₂, _∙_}

@@ -1,5 +1,4 @@
 -- The spectrum by its lines: there are 512 of them, each is its definition, and in a window in range none is above 2^59.
--- Assumes nothing.
 use mathlib.Core.Bool.{false}
 use mathlib.Core.List.{List}
 use mathlib.Core.Path.{_≡_}

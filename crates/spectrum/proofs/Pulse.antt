@@ -14,7 +14,8 @@ use Rattle.algebra.specs.Sums.{sumTo}
 use Rattle.sine.specs.ExactSine.{factorial, denominator, term, added, takenAway, quarterSine}
 use Rattle.sine.specs.Turn.{overHalf, overTurn}
 use Rattle.sine.specs.Wave.{tableEntry, tableSine, tableCosine}
-use Rattle.spectrum.specs.Line.{sumScale, lineSum, roundedSum, square, lineOf}
+use Rattle.spectrum.specs.Line.{sumScale, lineSum, roundedSum, lineOf}
+use Rattle.algebra.specs.Integers.{square}
 use Rattle.spectrum.specs.Spectrum.{outOfRange}
 use Rattle.spectrum.proofs.Bounds.{summand}
 

@@ -1,5 +1,4 @@
 -- Signed numbers by their absolute values: what fits a width, and what a widened number is.
--- Assumes nothing.
 use mathlib.Core.Path.{_≡_, ap, _∙_}
 use Prim.Native.Nat.{_^_, _≤_, _<_}
 use native.Mathlib.Nat.{lt-of-le-of-lt, le-of-lt}

@@ -6,7 +6,7 @@ use lib.IntN.{ℤ, pos, negsuc}
 use lib.ListN.{replicate}
 use Rattle.algebra.specs.Lists.{anyOf}
 use Rattle.spectrum.specs.Line.{windowAt}
-use Rattle.spectrum.specs.Spectrum.{outOfRange, spectrumRefusal, spectrumBuffer}
+use Rattle.spectrum.specs.Spectrum.{outOfRange, spectrumRefusal, spectrumExit}
 
 -- a recording, a start, the length of the buffer, and the refusal
 pub record Case : Type 0 where
@@ -54,7 +54,7 @@ sevens c = replicate (c .room) 7
 -- the refusal, and the buffer after the call
 abbrev called : Case → ℕ × List ℕ
 called c =
-    (spectrumRefusal (c .recording) (c .start) (sevens c), spectrumBuffer (c .recording) (c .start) (sevens c))
+    (spectrumRefusal (c .recording) (c .start) (sevens c), spectrumExit (c .recording) (c .start) (sevens c))
 
 taken-worked : map (λ c. called c .0) taken ≡ map (λ c. c .refusal) taken
 unfolding spectrumRefusal windowAt anyOf outOfRange
@@ -65,5 +65,5 @@ abbrev expected : Case → ℕ × List ℕ
 expected c = (c .refusal, sevens c)
 
 refused-worked : map called refused ≡ map expected refused
-unfolding spectrumRefusal spectrumBuffer windowAt anyOf outOfRange
+unfolding spectrumRefusal spectrumExit windowAt anyOf outOfRange
 refused-worked = refl

@@ -1,8 +1,9 @@
 -- The spectral lines of a window (document 01, "From samples to spectrum").
 use mathlib.Core.List.{List}
 use Prim.Native.Nat.{ℕ, _+_, _*_, _^_}
-use lib.IntN.{ℤ, pos, _*ℤ_, natAbs}
+use lib.IntN.{ℤ, pos, _*ℤ_}
 use lib.ListN.{getD, take, drop}
+use Rattle.algebra.specs.Integers.{square}
 use Rattle.algebra.specs.Lists.{tabulate}
 use Rattle.algebra.specs.Rounding.{nearestℤ}
 use Rattle.algebra.specs.Sums.{sumTo}
@@ -32,14 +33,14 @@ lineSum wave window k = sumTo windowLength (λ j. getD window j (pos 0) *ℤ wav
 unfoldable pub roundedSum : (ℕ → ℤ) → List ℤ → ℕ → ℤ
 roundedSum wave window k = nearestℤ (lineSum wave window k) sumScale
 
--- the square of a whole number
-unfoldable pub square : ℤ → ℕ
-square z = natAbs z * natAbs z
-
 -- the line: the sum of the squares of A and B
 unfoldable pub lineOf : List ℤ → ℕ → ℕ
 lineOf window k =
     square (roundedSum tableCosine window k) + square (roundedSum tableSine window k)
+
+-- the largest line that is taken: no line of a window in range is above it
+abbrev pub largestLine : ℕ
+largestLine = 2 ^ 59
 
 -- the 512 lines
 unfoldable pub linesOf : List ℤ → List ℕ

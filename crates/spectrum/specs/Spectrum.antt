@@ -27,6 +27,6 @@ spectrumRefusal recording start buffer =
     [])
 
 -- the buffer at exit: the window's lines, or on a refusal what it held
-unfoldable pub spectrumBuffer : List ℤ → ℕ → List ℕ → List ℕ
-spectrumBuffer recording start buffer =
+unfoldable pub spectrumExit : List ℤ → ℕ → List ℕ → List ℕ
+spectrumExit recording start buffer =
     unlessRefused (spectrumRefusal recording start buffer) (linesOf (windowAt recording start)) buffer

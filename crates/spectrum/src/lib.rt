@@ -9,8 +9,9 @@ ghost use Rattle.algebra.specs.Lists.{anyOf};
 ghost use Rattle.algebra.specs.Rounding.{nearestℤ};
 ghost use Rattle.sine.specs.Turn.{quarterTurn};
 ghost use Rattle.sine.specs.Wave.{tableSine};
-ghost use Rattle.spectrum.specs.Line.{lineCount, lineSum, sumScale, roundedSum, square, lineOf, linesOf};
-ghost use Rattle.spectrum.specs.Spectrum.{outOfRange, spectrumRefusal, spectrumBuffer};
+ghost use Rattle.spectrum.specs.Line.{lineCount, lineSum, sumScale, roundedSum, lineOf, linesOf};
+ghost use Rattle.algebra.specs.Integers.{square};
+ghost use Rattle.spectrum.specs.Spectrum.{outOfRange, spectrumRefusal, spectrumExit};
 ghost use Rattle.spectrum.specs.Prepared.{Prepared};
 use refusals::NO_REFUSAL;
 use refusals::SAMPLE_OUT_OF_RANGE;
@@ -130,7 +131,7 @@ fn fill_lines(window: &[i32], wave: &[i32; TURN], lines: &mut [u64])
 // A refused call leaves `lines` as they were.
 pub fn spectrum(recording: &[i32], start: usize, lines: &mut [u64]) -> u32
     ensures { λ r. ⌜ r ≡ spectrumRefusal (now (recording .entry)) start (now (lines .entry)) ⌝ }
-    ensures { λ _. ⌜ now (lines .exit) ≡ spectrumBuffer (now (recording .entry)) start (now (lines .entry)) ⌝ }
+    ensures { λ _. ⌜ now (lines .exit) ≡ spectrumExit (now (recording .entry)) start (now (lines .entry)) ⌝ }
 {
     if recording.len() < start || recording.len() - start < WINDOW_LENGTH {
         return SHORT_WINDOW;

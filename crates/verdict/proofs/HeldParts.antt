@@ -1,4 +1,4 @@
--- The fractions that the code holds in a call that is not refused: their parts are those of the definitions, and small enough to be compared. Assumes nothing.
+-- The fractions that the code holds in a call that is not refused: their parts are those of the definitions, and small enough to be compared.
 use mathlib.Core.Path.{refl}
 use Prim.Native.Nat.{ℕ, _-_}
 use native.Mathlib.Omega.{arith}
@@ -8,7 +8,7 @@ use Rattle.observation.specs.declared.Observation.{Observation}
 use Rattle.observation.proofs.SoundRecord.{sound-parts}
 use Rattle.verdict.specs.declared.comparison.Fraction.{Fraction as Held}
 use Rattle.verdict.specs.Tests.{limitInUnits, peakLimitInUnits}
-use Rattle.verdict.specs.Call.{averageOf, peakOf}
+use Rattle.observation.specs.Average.{averageOf, peakOf}
 use Rattle.verdict.specs.Parts.{Parts, Comparable}
 use Rattle.verdict.proofs.LimitBounds.{limit-in-units-bounds, peak-limit-in-units-bounds}
 use Rattle.verdict.proofs.Verdicts.{Accepted}

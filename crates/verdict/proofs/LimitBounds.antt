@@ -1,4 +1,4 @@
--- The limits: which orders have no figure of their own, and how large the parts of a limit are. Assumes nothing.
+-- The limits: which orders have no figure of their own, and how large the parts of a limit are.
 use mathlib.Core.Path.{_≡_, sym}
 use mathlib.Core.Bool.{false}
 use Prim.Native.Nat.{ℕ, _*_, _≤_}

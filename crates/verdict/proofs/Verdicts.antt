@@ -1,5 +1,4 @@
 -- What a verdict says, for the theorems above it: what is known of a call that is not refused, and how the average and the peak lie to their limits in each of the three cases.
--- Assumes nothing.
 use mathlib.Core.Path.{_≡_, refl, sym}
 use mathlib.Core.Bool.{Bool, true, false, true≢false, not, cond, _&&_, _||_}
 use mathlib.Core.Logic.{_⊎_, inl, inr, ⊎-map}
@@ -16,8 +15,10 @@ use Rattle.observation.specs.Soundness.{isSound}
 use Rattle.verdict.specs.declared.Verdict.{Verdict}
 use Rattle.verdict.specs.declared.Verdict.the-variants.{Within, Close, Over}
 use Rattle.verdict.specs.declared.Answered.the-variants.{Given}
-use Rattle.verdict.specs.Tests.{band, limitInUnits, peakLimitInUnits, isWithin, isOver, Touches}
-use Rattle.verdict.specs.Call.{largestScale, firstJudged, averageOf, peakOf, combined, verdictOf, verdictRefusal, verdictAnswer, orderNumber}
+use Rattle.verdict.specs.Tests.{limitInUnits, peakLimitInUnits, isWithin, isOver, Touches}
+use Rattle.observation.specs.Smoothing.{smoothedMargin}
+use Rattle.verdict.specs.Call.{largestScale, firstJudged, combined, verdictOf, verdictRefusal, verdictAnswer, orderNumber}
+use Rattle.observation.specs.Average.{averageOf, peakOf}
 
 -- ---- a call that is not refused
 
@@ -65,19 +66,19 @@ module _ (o : Observation) (order unitsPerAmpere : ℕ) (accepted-call : verdict
 -- ---- the two tests, as orders of fractions
 
 module _ (value limit : Fraction) where
-  pub within-le : isWithin value limit ≡ true → value +ᶠ whole band ≤ᶠ limit
+  pub within-le : isWithin value limit ≡ true → value +ᶠ whole smoothedMargin ≤ᶠ limit
   unfolding isWithin
   within-le = leb-true _ _
 
-  pub not-within-gt : isWithin value limit ≡ false → limit <ᶠ value +ᶠ whole band
+  pub not-within-gt : isWithin value limit ≡ false → limit <ᶠ value +ᶠ whole smoothedMargin
   unfolding isWithin
   not-within-gt = leb-false _ _
 
-  pub over-gt : isOver value limit ≡ true → limit +ᶠ whole band <ᶠ value
+  pub over-gt : isOver value limit ≡ true → limit +ᶠ whole smoothedMargin <ᶠ value
   unfolding isOver
   over-gt = ltb-true _ _
 
-  pub not-over-le : isOver value limit ≡ false → value ≤ᶠ limit +ᶠ whole band
+  pub not-over-le : isOver value limit ≡ false → value ≤ᶠ limit +ᶠ whole smoothedMargin
   unfolding isOver
   not-over-le = ltb-false _ _
 
@@ -99,8 +100,8 @@ module _ (average limit peak peakLimit : Fraction) (order : ℕ) where
 
 -- how the average and the peak lie to their limits in each case
 abbrev pub Says : (average limit peak peakLimit : Fraction) → Verdict → Type 0
-Says average limit peak peakLimit (Over h) = (limit +ᶠ whole band <ᶠ average) ⊎ (peakLimit +ᶠ whole band <ᶠ peak)
-Says average limit peak peakLimit (Within h) = (average +ᶠ whole band ≤ᶠ limit) × (peak +ᶠ whole band ≤ᶠ peakLimit)
+Says average limit peak peakLimit (Over h) = (limit +ᶠ whole smoothedMargin <ᶠ average) ⊎ (peakLimit +ᶠ whole smoothedMargin <ᶠ peak)
+Says average limit peak peakLimit (Within h) = (average +ᶠ whole smoothedMargin ≤ᶠ limit) × (peak +ᶠ whole smoothedMargin ≤ᶠ peakLimit)
 Says average limit peak peakLimit (Close h) = Touches average limit ⊎ Touches peak peakLimit
 
 module _ (o : Observation) (order unitsPerAmpere : ℕ) where

@@ -15,7 +15,8 @@ use Rattle.verdict.specs.declared.Answered.{Answered}
 use Rattle.verdict.specs.declared.Answered.the-variants.{Given, Refused}
 use Rattle.verdict.specs.Limit.{ownFigures, overOrder, figureIn, limitOf}
 use Rattle.verdict.specs.Tests.{limitInUnits, peakLimitInUnits, isWithin, isOver}
-use Rattle.verdict.specs.Call.{averageOf, peakOf, combined, verdictOf, verdictRefusal, verdictAnswer, refusalNumber, orderNumber}
+use Rattle.verdict.specs.Call.{combined, verdictOf, verdictRefusal, verdictAnswer, refusalNumber, orderNumber}
+use Rattle.observation.specs.Average.{averageOf, peakOf}
 
 -- ---- the limits
 

@@ -1,16 +1,15 @@
 -- What the call `verdict` answers (document 01, "Class A verdicts" and the refusal table's row "verdict").
 use mathlib.Core.Bool.{cond, not, _&&_, _||_}
 use mathlib.Core.List.{[], _∷_}
-use Prim.Native.Nat.{ℕ, _-_, _^_, max}
-use native.Mathlib.Omega.{arith}
+use Prim.Native.Nat.{ℕ, _^_}
 use lib.Dec.{eqb, leb}
-use lib.ListN.{getD}
-use Rattle.algebra.specs.Fraction.{Fraction, whole, divide}
+use Rattle.algebra.specs.Fraction.{Fraction}
 use Rattle.rows.specs.Orders.{orderCount}
 use Rattle.refusals.specs.Numbers.{noRefusal, unsoundRecord, noWindow, orderOutOfRange, scaleOutOfRange}
 use Rattle.refusals.specs.Answers.{firstFault}
 use Rattle.observation.specs.declared.Observation.{Observation}
 use Rattle.observation.specs.Soundness.{isSound}
+use Rattle.observation.specs.Average.{averageOf, peakOf}
 use Rattle.verdict.specs.declared.Verdict.{Verdict}
 use Rattle.verdict.specs.declared.Verdict.the-variants.{Within, Close, Over}
 use Rattle.verdict.specs.declared.Answered.{Answered}
@@ -24,18 +23,6 @@ largestScale = 2 ^ 28
 -- a verdict is asked of the orders 2..40
 abbrev pub firstJudged : ℕ
 firstJudged = 2
-
--- "The average is sum/count, from count 1 on"
-abbrev pub average : Fraction → ℕ → Fraction
-average sum count = divide sum (max count 1) (omega arith)
-
--- the average of an order
-unfoldable pub averageOf : Observation → ℕ → Fraction
-averageOf o order = average (whole (getD (o .sum) (order - 1) 0)) (o .windows)
-
--- the peak of an order
-unfoldable pub peakOf : Observation → ℕ → Fraction
-peakOf o order = whole (getD (o .peak) (order - 1) 0)
 
 -- over if either test is, within if both are, else close
 unfoldable pub combined : Fraction → Fraction → Fraction → Fraction → ℕ → Verdict

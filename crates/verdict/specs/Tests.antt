@@ -4,11 +4,8 @@ use Prim.Native.Nat.{ℕ, _*_}
 use native.Mathlib.Omega.{arith}
 use lib.Dec.{leb, ltb}
 use Rattle.algebra.specs.Fraction.{Fraction, whole, scale, divide, _+ᶠ_, _≤ᶠ_, _<ᶠ_}
+use Rattle.observation.specs.Smoothing.{smoothedMargin}
 use Rattle.verdict.specs.Limit.{limitOf}
-
--- the band: the units that a reported value may be off
-abbrev pub band : ℕ
-band = 12
 
 -- milliamperes in an ampere
 abbrev pub milliamperes : ℕ
@@ -25,14 +22,14 @@ peakLimitInUnits order unitsPerAmpere = divide (scale 3 (limitInUnits order unit
 -- value + 12 is at most the limit
 unfoldable pub isWithin : Fraction → Fraction → Bool
 isWithin value limit =
-    leb ((value +ᶠ whole band) .num * limit .den) (limit .num * (value +ᶠ whole band) .den)
+    leb ((value +ᶠ whole smoothedMargin) .num * limit .den) (limit .num * (value +ᶠ whole smoothedMargin) .den)
 
 -- value − 12 exceeds the limit: limit + 12 is below the value
 unfoldable pub isOver : Fraction → Fraction → Bool
 isOver value limit =
-    ltb ((limit +ᶠ whole band) .num * value .den) (value .num * (limit +ᶠ whole band) .den)
+    ltb ((limit +ᶠ whole smoothedMargin) .num * value .den) (value .num * (limit +ᶠ whole smoothedMargin) .den)
 
 -- a band touches its limit: the value less 12 is at most the limit, and the value plus 12 is above it
 pub record Touches (value limit : Fraction) : Type 0 where
-  pub not-over : value ≤ᶠ limit +ᶠ whole band
-  pub not-within : limit <ᶠ value +ᶠ whole band
+  pub not-over : value ≤ᶠ limit +ᶠ whole smoothedMargin
+  pub not-within : limit <ᶠ value +ᶠ whole smoothedMargin

@@ -22,17 +22,18 @@ use Rattle.observation.specs.Smoothing.{smoothedValue}
 use Rattle.observation.specs.Calls.{emptyRecord, freshRefusal, bookAt, nextBook, withRow, rowChecks, addRowRefusal}
 use Rattle.verdict.specs.Limit.{ownFigures, figureIn, limitOf, overOrder}
 use Rattle.verdict.specs.Tests.{limitInUnits, peakLimitInUnits, isWithin, isOver}
-use Rattle.verdict.specs.Call.{averageOf, peakOf, combined, verdictOf, verdictRefusal}
+use Rattle.verdict.specs.Call.{combined, verdictOf, verdictRefusal}
+use Rattle.observation.specs.Average.{averageOf, peakOf}
 use Rattle.columns.specs.Text.{bytesOf, rightJustified}
 use Rattle.columns.specs.Column.{isDigit, areDigits, isWhole, placeValue, wholeNumber, negativeNumber, signedNumber, afterBlanks, columnNumber, decimalWithin, decimalText, numberText, columnText}
 use Rattle.columns.specs.Listing.{header, orderLine, leftOut, orderText, ordersText, listingText}
-use Rattle.columns.specs.Calls.{columnReadOf, listingFault, listingWritten}
+use Rattle.columns.specs.Calls.{columnReadAnswer, listingRefusal, listingExit}
 use Rattle.kifsang.specs.Kinds.{kinds, isKind, kindWith}
-use Rattle.kifsang.specs.GroupCalls.{groupCallRefusal, groupCallValue, rowCallRefusal, rowCallValues, distortionCallRefusal, distortionCallValue}
+use Rattle.kifsang.specs.GroupCalls.{groupCallRefusal, groupCallExit, rowCallRefusal, rowCallExit, distortionCallRefusal, distortionCallExit}
 use Rattle.kifsang.specs.Words.{recordOf, wordsOf}
-use Rattle.kifsang.specs.ColumnCalls.{columnCallNumber}
-use Rattle.kifsang.specs.ListingCall.{listingCallRefusal, listingCallBytes, listingCallCount}
-use Rattle.kifsang.specs.RecordCalls.{freshCallRefusal, freshCallWords, addRowCallRefusal, addRowCallWords, verdictNumber, verdictCallRefusal, verdictCallNumber}
+use Rattle.kifsang.specs.ColumnCalls.{columnCallExit}
+use Rattle.kifsang.specs.ListingCall.{listingCallRefusal, listingCallExit, listingCallCountExit}
+use Rattle.kifsang.specs.RecordCalls.{freshCallRefusal, freshCallExit, addRowCallRefusal, addRowCallExit, verdictNumber, verdictCallRefusal, verdictCallExit}
 
 -- each row is what a call answers and leaves, and the same in figures
 Alike : {A : Type 0} → List ((ℕ × A) × (ℕ × A)) → Type 0
@@ -47,7 +48,7 @@ lines =
 
 groupValueOf : ℕ → ℕ → ℕ → List ℕ → ℕ × ℕ
 groupValueOf kind system order lent =
-    (groupCallRefusal kind system order lent, groupCallValue kind system order lent 77)
+    (groupCallRefusal kind system order lent, groupCallExit kind system order lent 77)
 
 group-values-worked :
     Alike
@@ -64,13 +65,13 @@ group-values-worked :
     (groupValueOf 4 10 40 (replicate 511 (2 ^ 59 + 1)), (4, 77)) ∷
     (groupValueOf 4 10 40 (replicate 512 (2 ^ 59 + 1)), (5, 77)) ∷
     [])
-unfolding Alike groupValueOf lines groupCallRefusal groupCallValue isKind kindWith kinds groupRefusal isSystem isOrder groupValue rootOf largest weightsOf wholeLines weightedSum sumOver tabulate anyOf
+unfolding Alike groupValueOf lines groupCallRefusal groupCallExit isKind kindWith kinds groupRefusal isSystem isOrder groupValue rootOf largest weightsOf wholeLines weightedSum sumOver tabulate anyOf
 group-values-worked = refl
 
 -- ---- kifsang_distortion
 
 distortionFor : List ℕ → ℕ × ℕ
-distortionFor values = (distortionCallRefusal values, distortionCallValue values 77)
+distortionFor values = (distortionCallRefusal values, distortionCallExit values 77)
 
 distortions-worked :
     Alike
@@ -80,7 +81,7 @@ distortions-worked :
     (distortionFor (replicate 41 0), (102, 77)) ∷
     (distortionFor (replicate 40 0), (12, 77)) ∷
     [])
-unfolding Alike distortionFor distortionCallRefusal distortionCallValue distortionAnswer distortionOf sumOfSquares sumOver largest
+unfolding Alike distortionFor distortionCallRefusal distortionCallExit distortionAnswer distortionOf sumOfSquares sumOver largest
 distortions-worked = refl
 
 -- ---- kifsang_verdict
@@ -91,7 +92,7 @@ recordWith windows value = 10 ∷ windows ∷ replicate 120 value
 
 verdictFor : List ℕ → ℕ → ℕ → ℕ × ℕ
 verdictFor words order unitsPerAmpere =
-    (verdictCallRefusal words order unitsPerAmpere, verdictCallNumber words order unitsPerAmpere 77)
+    (verdictCallRefusal words order unitsPerAmpere, verdictCallExit words order unitsPerAmpere 77)
 
 verdicts-worked :
     Alike
@@ -111,13 +112,13 @@ verdicts-worked :
     (verdictFor (recordWith 1 0) 40 (2 ^ 28 + 1), (11, 77)) ∷
     (verdictFor (recordWith 1 0) 40 (2 ^ 28), (0, 1)) ∷
     [])
-unfolding Alike verdictFor recordWith verdictCallRefusal verdictCallNumber verdictNumber recordOf verdictRefusal verdictOf averageOf peakOf combined isOver isWithin limitInUnits peakLimitInUnits limitOf figureIn ownFigures overOrder whole scale divide _+ᶠ_ isSound isSystem noneAbove allZero anyOf
+unfolding Alike verdictFor recordWith verdictCallRefusal verdictCallExit verdictNumber recordOf verdictRefusal verdictOf averageOf peakOf combined isOver isWithin limitInUnits peakLimitInUnits limitOf figureIn ownFigures overOrder whole scale divide _+ᶠ_ isSound isSystem noneAbove allZero anyOf
 verdicts-worked = refl
 
 -- ---- kifsang_row
 
 rowFor : ℕ → ℕ → List ℕ → List ℕ → ℕ × List ℕ
-rowFor kind system lent values = (rowCallRefusal kind system lent values, rowCallValues kind system lent values)
+rowFor kind system lent values = (rowCallRefusal kind system lent values, rowCallExit kind system lent values)
 
 rows-worked :
     Alike
@@ -130,13 +131,13 @@ rows-worked :
     (rowFor 4 10 (replicate 511 (2 ^ 59 + 1)) (replicate 40 7), (4, replicate 40 7)) ∷
     (rowFor 4 10 (replicate 512 (2 ^ 59 + 1)) (replicate 40 7), (5, replicate 40 7)) ∷
     [])
-unfolding Alike rowFor rowCallRefusal rowCallValues isKind kindWith kinds groupRefusal isSystem isOrder groupValues groupAnswer groupValue rootOf largest weightsOf wholeLines weightedSum sumOver tabulate anyOf
+unfolding Alike rowFor rowCallRefusal rowCallExit isKind kindWith kinds groupRefusal isSystem isOrder groupValues groupAnswer groupValue rootOf largest weightsOf wholeLines weightedSum sumOver tabulate anyOf
 rows-worked = refl
 
 -- ---- kifsang_fresh_record
 
 freshFor : ℕ → List ℕ → ℕ × List ℕ
-freshFor system words = (freshCallRefusal system words, freshCallWords system words)
+freshFor system words = (freshCallRefusal system words, freshCallExit system words)
 
 fresh-records-worked :
     Alike
@@ -147,13 +148,13 @@ fresh-records-worked :
     (freshFor 11 (replicate 123 7), (102, replicate 123 7)) ∷
     (freshFor 11 (replicate 122 7), (1, replicate 122 7)) ∷
     [])
-unfolding Alike freshFor freshCallRefusal freshCallWords freshRefusal isSystem wordsOf emptyRecord
+unfolding Alike freshFor freshCallRefusal freshCallExit freshRefusal isSystem wordsOf emptyRecord
 fresh-records-worked = refl
 
 -- ---- kifsang_add_row
 
 addFor : List ℕ → ℕ → List ℕ → ℕ × List ℕ
-addFor words system values = (addRowCallRefusal words system values, addRowCallWords words system values)
+addFor words system values = (addRowCallRefusal words system values, addRowCallExit words system values)
 
 add-rows-worked :
     Alike
@@ -175,13 +176,13 @@ add-rows-worked :
     (addFor (recordWith 45000 7) 12 (replicate 40 1), (8, recordWith 45000 7)) ∷
     (addFor (recordWith 45000 7) 10 (replicate 40 1), (9, recordWith 45000 7)) ∷
     [])
-unfolding Alike addFor recordWith addRowCallRefusal addRowCallWords recordOf wordsOf addRowRefusal rowChecks withRow nextBook bookAt bookStep smoothedNext smoothedValue nearest tabulate isSound isSystem noneAbove allZero anyOf
+unfolding Alike addFor recordWith addRowCallRefusal addRowCallExit recordOf wordsOf addRowRefusal rowChecks withRow nextBook bookAt bookStep smoothedNext smoothedValue nearest tabulate isSound isSystem noneAbove allZero anyOf
 add-rows-worked = refl
 
 -- ---- kifsang_read_column
 
 columnFor : String → ℕ × ℤ
-columnFor text = (columnReadOf (bytesOf text) .refusal, columnCallNumber (bytesOf text) (pos 77))
+columnFor text = (columnReadAnswer (bytesOf text) .refusal, columnCallExit (bytesOf text) (pos 77))
 
 columns-worked :
     Alike
@@ -190,7 +191,7 @@ columns-worked :
     (columnFor "       7 ", (13, pos 77)) ∷
     (columnFor "      7", (13, pos 77)) ∷
     [])
-unfolding Alike columnFor columnCallNumber columnReadOf bytesOf isDigit areDigits isWhole placeValue wholeNumber negativeNumber signedNumber afterBlanks columnNumber
+unfolding Alike columnFor columnCallExit columnReadAnswer bytesOf isDigit areDigits isWhole placeValue wholeNumber negativeNumber signedNumber afterBlanks columnNumber
 columns-worked = refl
 
 -- ---- kifsang_fill_listing
@@ -201,8 +202,8 @@ listingFor group subgroup smoothed buffer =
     let values : ℕ → List ℕ = λ count. replicate count 0 in (
       listingCallRefusal (values group) (values subgroup) (values smoothed) buffer,
       (
-        listingCallCount (values group) (values subgroup) (values smoothed) buffer 77,
-        listingCallBytes (values group) (values subgroup) (values smoothed) buffer,
+        listingCallCountExit (values group) (values subgroup) (values smoothed) buffer 77,
+        listingCallExit (values group) (values subgroup) (values smoothed) buffer,
       ),
     )
 
@@ -218,5 +219,5 @@ listings-worked :
     (listingFor 40 40 0 (replicate 9 7), (102, (77, replicate 9 7))) ∷
     (listingFor 40 40 40 (replicate 1639 7), (14, (77, replicate 1639 7))) ∷
     [])
-unfolding Alike listingFor listingCallRefusal listingCallCount listingCallBytes listingFault listingWritten listingText ordersText orderText leftOut orderLine header columnText rightJustified numberText decimalText decimalWithin bytesOf
+unfolding Alike listingFor listingCallRefusal listingCallCountExit listingCallExit listingRefusal listingExit listingText ordersText orderText leftOut orderLine header columnText rightJustified numberText decimalText decimalWithin bytesOf
 listings-worked = refl

@@ -10,7 +10,7 @@ use lib.IntN.{ℤ}
 use lib.ListN.{length, getD}
 use Rattle.algebra.specs.Fraction.{Fraction, whole, scale, divide, square, _+ᶠ_}
 use Rattle.spectrum.specs.Line.{windowAt, linesOf}
-use Rattle.spectrum.specs.Spectrum.{spectrumRefusal, spectrumBuffer}
+use Rattle.spectrum.specs.Spectrum.{spectrumRefusal, spectrumExit}
 use Rattle.groups.specs.declared.Kind.{Kind}
 use Rattle.groups.specs.declared.Kind.the-variants.{HarmonicGroup}
 use Rattle.groups.specs.Group.{groupAnswer}
@@ -28,8 +28,8 @@ use Rattle.accuracy.specs.Distance.{InRange, GroupsNear}
 use Rattle.accuracy.specs.Claim.{WorkedList, LBook, UBook, after, reportedBook, state, Keeps}
 use Rattle.accuracy.proofs.Demand3.{demand3}
 use Rattle.kifsang.specs.Kinds.{kinds, kindWith}
-use Rattle.kifsang.specs.GroupCalls.{groupCallRefusal, groupCallValue}
-use Rattle.kifsang.specs.RecordCalls.{verdictNumber, verdictCallRefusal, verdictCallNumber}
+use Rattle.kifsang.specs.GroupCalls.{groupCallRefusal, groupCallExit}
+use Rattle.kifsang.specs.RecordCalls.{verdictNumber, verdictCallRefusal, verdictCallExit}
 use Rattle.exported_accuracy.specs.Calls.{Call, wordsAfter, listAfter}
 use Rattle.exported_accuracy.specs.Claim.{WordsHold}
 use Rattle.exported_accuracy.proofs.ExportedDemand3.{exported-demand3}
@@ -65,9 +65,9 @@ within-7 kind order window least most in-range = (at 10 refl, at 12 refl)
 called-within-7 :
     (recording : List ℤ) (start : ℕ) (buffer : List ℕ) (system order before : ℕ) →
     spectrumRefusal recording start buffer ≡ 0 →
-    groupCallRefusal 1 system order (spectrumBuffer recording start buffer) ≡ 0 →
+    groupCallRefusal 1 system order (spectrumExit recording start buffer) ≡ 0 →
     Within7
-    (groupCallValue 1 system order (spectrumBuffer recording start buffer) before)
+    (groupCallExit 1 system order (spectrumExit recording start buffer) before)
     (exactGroup HarmonicGroup system order (windowAt recording start))
 unfolding whole square kindWith kinds
 called-within-7 recording start buffer system order before taken asked =
@@ -164,7 +164,7 @@ module _
     words-verdict-number :
         (k before : ℕ) →
         verdictCallRefusal (wordsAfter words calls) 3 k ≡ 0 →
-        NumberSays kind system rows k (verdictCallNumber (wordsAfter words calls) 3 k before)
+        NumberSays kind system rows k (verdictCallExit (wordsAfter words calls) 3 k before)
     words-verdict-number k before asked =
         let given = holds .verdicts 3 k asked in
         rw (given .number before) (verdict-number-says kind system rows k (given .verdict) (given .kept))

@@ -1,5 +1,4 @@
 -- Every row of the table of worked numbers holds. The pulse's lines come from the law of a sum with one sample that is not 0; the rest is computed.
--- Assumes nothing.
 use mathlib.Core.Path.{_≡_, refl, fun-ext, _∙_}
 use mathlib.Core.Bool.{true}
 use Prim.Native.Nat.{ℕ, _<_}
@@ -31,10 +30,11 @@ use Rattle.observation.specs.Calls.{emptyRecord, freshRefusal, freshAnswer, boo
 use Rattle.observation.specs.CallList.{recordAfter}
 use Rattle.verdict.specs.Limit.{ownFigures, figureIn, limitOf, overOrder}
 use Rattle.verdict.specs.Tests.{limitInUnits, peakLimitInUnits, isWithin, isOver}
-use Rattle.verdict.specs.Call.{averageOf, peakOf, combined, verdictOf, verdictRefusal, verdictAnswer}
+use Rattle.verdict.specs.Call.{combined, verdictOf, verdictRefusal, verdictAnswer}
+use Rattle.observation.specs.Average.{averageOf, peakOf}
 use Rattle.columns.specs.Text.{bytesOf}
 use Rattle.columns.specs.Column.{isDigit, areDigits, isWhole, placeValue, wholeNumber, negativeNumber, signedNumber, afterBlanks, columnNumber}
-use Rattle.columns.specs.Calls.{columnReadOf}
+use Rattle.columns.specs.Calls.{columnReadAnswer}
 use Rattle.accuracy.specs.Distance.{InRange}
 use Rattle.accuracy.proofs.GroupDistance.{lines-accepted, lines-of-group}
 use Rattle.worked_numbers.specs.Cases.{pulse, rowOf, recordOf, cases, Holds}
@@ -63,7 +63,7 @@ pulse-group kind system value known alike order known-order =
     )
 
 pub worked-numbers : Everywhere Holds cases
-unfolding cases Holds tableEntry nearest quarterSine denominator added takenAway term factorial isSystem rootOf largest weightsOf wholeLines weightedSum sumOver tabulate anyOf rowOf recordOf recordAfter emptyRecord freshRefusal freshAnswer bookAt nextBook withRow rowChecks addRowRefusal addRowAnswer noneAbove allZero isSound smoothedNext bookStep smoothedValue ownFigures figureIn limitOf overOrder limitInUnits peakLimitInUnits isWithin isOver averageOf peakOf combined verdictOf verdictRefusal verdictAnswer whole scale divide _+ᶠ_ bytesOf isDigit areDigits isWhole placeValue wholeNumber negativeNumber signedNumber afterBlanks columnNumber columnReadOf
+unfolding cases Holds tableEntry nearest quarterSine denominator added takenAway term factorial isSystem rootOf largest weightsOf wholeLines weightedSum sumOver tabulate anyOf rowOf recordOf recordAfter emptyRecord freshRefusal freshAnswer bookAt nextBook withRow rowChecks addRowRefusal addRowAnswer noneAbove allZero isSound smoothedNext bookStep smoothedValue ownFigures figureIn limitOf overOrder limitInUnits peakLimitInUnits isWithin isOver averageOf peakOf combined verdictOf verdictRefusal verdictAnswer whole scale divide _+ᶠ_ bytesOf isDigit areDigits isWhole placeValue wholeNumber negativeNumber signedNumber afterBlanks columnNumber columnReadAnswer
 worked-numbers = (
   refl,
   (

@@ -23,7 +23,7 @@ use Rattle.verdict.specs.declared.Verdict.the-variants.{Within, Close, Over}
 use Rattle.verdict.specs.declared.Answered.the-variants.{Given}
 use Rattle.verdict.specs.Call.{verdictAnswer}
 use Rattle.columns.specs.Text.{bytesOf}
-use Rattle.columns.specs.Calls.{columnReadOf}
+use Rattle.columns.specs.Calls.{columnReadAnswer}
 
 -- "Pulse is sample 0 = 1000, the rest 0"
 unfoldable pub pulse : List ℤ
@@ -61,8 +61,8 @@ Holds (group kind system value) =
 Holds (smoothed first second value) =
     recordOf (rowOf first ∷ rowOf second ∷ []) .smoothed ≡ replicate orderCount value
 Holds (verdict value given) = verdictAnswer (recordOf (rowOf value ∷ [])) 3 1000000 ≡ Given given
-Holds (column text number) = columnReadOf (bytesOf text) ≡ record { refusal = noRefusal; value = number }
-Holds (noColumn text) = columnReadOf (bytesOf text) ≡ record { refusal = notAColumn; value = pos 0 }
+Holds (column text number) = columnReadAnswer (bytesOf text) ≡ record { refusal = noRefusal; value = number }
+Holds (noColumn text) = columnReadAnswer (bytesOf text) ≡ record { refusal = notAColumn; value = pos 0 }
 
 unfoldable pub cases : List Case
 cases =

@@ -3,7 +3,7 @@ use mathlib.Core.Path.{_≡_, refl}
 use borrow.Author.Needs.{needs}
 use native.Mathlib.Omega.{arith}
 use lib.ListN.{length}
-use Rattle.recordings.specs.Lines.{lineBytes}
+use Rattle.recordings.specs.Lines.{textLineBytes}
 use Rattle.harmlist.proofs.Blocks.{bytes-read}
 use Rattle.harmlist.proofs.read_line.Statement.{statement}
 use Rattle.harmlist.proofs.read_line.Tie as tie
@@ -26,8 +26,8 @@ begin-requires c κs = search needs
 returns : tie.Need-returns
 returns c =
     let full = c .before .before .before .read-full in
-    let room : length (full .last .0) ≡ lineBytes = omega (arith, full .kept) in
-    bytes-read lineBytes _ (full .last .0) (full .result .count) _ room (full .ensures) refl (c .begin .ensures)
+    let room : length (full .last .0) ≡ textLineBytes = omega (arith, full .kept) in
+    bytes-read textLineBytes _ (full .last .0) (full .result .count) _ room (full .ensures) refl (c .begin .ensures)
 
 pub read-line-spec : {M : Type 1} → statement M
 read-line-spec =

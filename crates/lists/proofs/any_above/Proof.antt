@@ -1,5 +1,5 @@
 -- `lists::any_above` meets its contract. The loop's invariant: some number from `i` on is above the limit just where some number at all is.
--- The measure is the count of numbers that are left. Assumes nothing.
+-- The measure is the count of numbers that are left.
 use mathlib.Core.Path.{_≡_, refl, sym, _∙_}
 use Prim.Native.Nat.{_≤_, _<_, _-_}
 use native.Mathlib.Omega.{arith}

@@ -1,4 +1,4 @@
--- `lists::number_at` meets its contract: an element of the list, and past its end 0. Assumes nothing.
+-- `lists::number_at` meets its contract: an element of the list, and past its end 0.
 use mathlib.Core.Path.{refl, sym}
 use borrow.Author.Needs.{needs}
 use lib.ListN.{List·getD-eq-default}

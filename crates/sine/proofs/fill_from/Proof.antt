@@ -1,5 +1,5 @@
 -- `sine::fill_from` meets its contract. The loop's invariant: the buffer keeps its length, and is the first i values of the wave and then what was there.
--- The measure is what is left of the length. Assumes nothing.
+-- The measure is what is left of the length.
 use mathlib.Core.Path.{_≡_, _∙_}
 use mathlib.Core.List.{_++_}
 use Prim.Native.Nat.{_≤_, _-_}

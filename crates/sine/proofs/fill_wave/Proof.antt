@@ -1,5 +1,4 @@
 -- `sine::fill_wave` meets its contract: the buffer's length is a turn.
--- Assumes nothing.
 use mathlib.Core.Path.{_∙_, ap}
 use Prim.Native.Nat.{ℕ}
 use borrow.Author.Needs.{needs}

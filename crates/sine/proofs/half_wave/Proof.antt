@@ -1,5 +1,4 @@
 -- `sine::half_wave` meets its contract: the two arms of the definition, each read from the quarter wave.
--- Assumes nothing.
 use mathlib.Core.Path.{sym, _∙_}
 use Prim.Native.Nat.{_-_}
 use native.Mathlib.Omega.{arith}

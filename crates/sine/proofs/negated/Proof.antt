@@ -1,5 +1,4 @@
 -- `sine::negated` meets its contract: a height of at most 2^30 has its negative in 32 bits.
--- Assumes nothing.
 use mathlib.Core.Path.{_≡_, _∙_, ap}
 use Prim.Native.Nat.{ℕ, zero, suc, _≤_, _<_, _^_}
 use native.Mathlib.Omega.{arith}

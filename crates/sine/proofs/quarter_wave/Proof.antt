@@ -1,5 +1,4 @@
 -- `sine::quarter_wave` meets its contract: one test, which antt computes, compares each of the 513 constants with its definition.
--- Assumes nothing.
 use Rattle.algebra.specs.Rounding.{nearest}
 use Rattle.sine.specs.ExactSine.{denominator, factorial, term, added, takenAway, quarterSine}
 use Rattle.sine.specs.Wave.{tableEntry, quarterList}

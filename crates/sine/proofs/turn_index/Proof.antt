@@ -1,5 +1,4 @@
 -- `sine::turn_index` meets its contract: the mask of eleven bits is the remainder by 2^11.
--- Assumes nothing.
 use lib.Bits.{and-mask}
 use Rattle.sine.proofs.turn_index.Statement.{statement}
 use Rattle.sine.proofs.turn_index.Tie as tie

@@ -1,5 +1,4 @@
 -- `sine::wave_at` meets its contract: each arm is one half turn of the definition.
--- Assumes nothing.
 use mathlib.Core.Path.{sym, ap, _∙_}
 use Prim.Native.Nat.{ℕ, _-_}
 use native.Mathlib.Omega.{arith}

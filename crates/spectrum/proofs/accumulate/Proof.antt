@@ -1,5 +1,4 @@
 -- `spectrum::accumulate` meets its contract. A product of two numbers of 32 bits is at most 2^62, so the sum fits 64 bits.
--- Assumes nothing.
 use mathlib.Core.Path.{_≡_, _∙_}
 use Prim.Native.Nat.{_^_, _<_, _≤_}
 use native.Mathlib.Nat.{mul-le-mul}

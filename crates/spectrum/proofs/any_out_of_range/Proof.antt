@@ -1,5 +1,5 @@
 -- `spectrum::any_out_of_range` meets its contract. The loop's invariant: the test over what is left of the window is the test over the whole.
--- The measure is what is left. Assumes nothing.
+-- The measure is what is left.
 use mathlib.Core.Path.{_≡_, refl, sym, ap, _∙_}
 use Prim.Native.Nat.{_-_, _≤_}
 use native.Mathlib.Omega.{arith}

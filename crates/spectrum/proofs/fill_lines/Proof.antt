@@ -1,5 +1,5 @@
 -- `spectrum::fill_lines` meets its contract. The loop's invariant: the buffer keeps its length, and is the window's first k lines and then what was there.
--- The measure is what is left of the lines. Assumes nothing.
+-- The measure is what is left of the lines.
 use mathlib.Core.List.{_++_}
 use mathlib.Core.Path.{_≡_, _∙_}
 use Prim.Native.Nat.{_-_, _≤_}

@@ -1,12 +1,12 @@
 -- `spectrum::line` meets its contract. The phase of a quarter turn gives the cosine by its definition, and the phase 0 the sine.
--- Assumes nothing.
 use borrow.Author.Needs.{needs}
 use mathlib.Core.Path.{_≡_, ap, ap₂, _∙_, fun-ext}
 use Prim.Native.Nat.{_+_}
 use native.Mathlib.Nat.{add-zero}
 use native.Mathlib.Omega.{arith}
 use Rattle.sine.specs.Wave.{tableSine, tableCosine}
-use Rattle.spectrum.specs.Line.{roundedSum, square, lineOf}
+use Rattle.spectrum.specs.Line.{roundedSum, lineOf}
+use Rattle.algebra.specs.Integers.{square}
 use Rattle.spectrum.proofs.Bounds.{line-le}
 use Rattle.spectrum.proofs.line.Statement.{statement}
 use Rattle.spectrum.proofs.line.Tie as tie

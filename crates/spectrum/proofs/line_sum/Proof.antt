@@ -1,5 +1,5 @@
 -- `spectrum::line_sum` meets its contract. The loop's invariant: the sum is that of the first j summands.
--- The measure is what is left of the window. Assumes nothing.
+-- The measure is what is left of the window.
 use mathlib.Core.List.{List}
 use mathlib.Core.Path.{_≡_, refl, _∙_}
 use Prim.Native.Nat.{ℕ, _+_, _*_, _-_, _%_, _<_, _≤_}

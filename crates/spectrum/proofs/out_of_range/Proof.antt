@@ -1,5 +1,4 @@
 -- `spectrum::out_of_range` meets its contract. The two comparisons are one test of the absolute value.
--- Assumes nothing.
 use borrow.Author.Needs.{needs}
 use mathlib.Core.Bool.{true, false, true≢false}
 use mathlib.Core.Path.{_≡_, refl, sym, _∙_}

@@ -1,5 +1,4 @@
 -- `spectrum::rounded` meets its contract. Half of 2^29 is added before the shift, which rounds down.
--- Assumes nothing.
 use mathlib.Core.Path.{_≡_, _∙_}
 use Prim.Native.Nat.{ℕ, _^_, _<_}
 use native.Mathlib.Omega.{arith}

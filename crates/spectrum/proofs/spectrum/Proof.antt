@@ -1,5 +1,4 @@
 -- `spectrum::spectrum` meets its contract: a way for each refusal, in the order of the table, and the way that works.
--- Assumes nothing.
 use borrow.Author.Needs.{needs}
 use borrow.Author.Tests.{ltb-true, ltb-false, lt-ltb, le-ltb, eq-eqb, ne-eqb}
 use mathlib.Core.Bool.{true, false}
@@ -14,7 +13,7 @@ use lib.ListN.{length, take, drop, length-take, length-drop}
 use Rattle.algebra.specs.Lists.{anyOf}
 use Rattle.refusals.specs.Numbers.{noRefusal, shortWindow, wrongLineCount, sampleOutOfRange}
 use Rattle.spectrum.specs.Line.{windowLength, lineCount, windowAt, linesOf}
-use Rattle.spectrum.specs.Spectrum.{outOfRange, spectrumRefusal, spectrumBuffer}
+use Rattle.spectrum.specs.Spectrum.{outOfRange, spectrumRefusal, spectrumExit}
 use Rattle.spectrum.proofs.spectrum.Statement.{statement}
 use Rattle.spectrum.proofs.spectrum.Tie as tie
 
@@ -22,10 +21,10 @@ module _ (recording : List ℤ) (start : ℕ) (buffer : List ℕ) where
   -- what the contract says of an answer and of the buffer at exit
   abbrev Answered : ℕ → List ℕ → Type 0
   Answered answer last =
-      (answer ≡ spectrumRefusal recording start buffer) × (last ≡ spectrumBuffer recording start buffer)
+      (answer ≡ spectrumRefusal recording start buffer) × (last ≡ spectrumExit recording start buffer)
 
   refused : (answer : ℕ) → answer ≡ spectrumRefusal recording start buffer → eqb answer noRefusal ≡ false → Answered answer buffer
-  unfolding spectrumBuffer
+  unfolding spectrumExit
   refused answer e f = (e, rw (← e, f))
 
   short : length recording - start < windowLength → Answered shortWindow buffer
@@ -49,7 +48,7 @@ module _ (recording : List ℤ) (start : ℕ) (buffer : List ℕ) where
           refl
 
       worked : anyOf outOfRange (windowAt recording start) ≡ false → Answered noRefusal (linesOf (windowAt recording start))
-      unfolding spectrumRefusal spectrumBuffer
+      unfolding spectrumRefusal spectrumExit
       worked e =
           rw (le-ltb (length recording - start) windowLength fits, eq-eqb (length buffer) lineCount count, e) (refl, refl)
 

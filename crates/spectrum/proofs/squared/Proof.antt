@@ -1,5 +1,4 @@
 -- `spectrum::squared` meets its contract. The square is not below 0, and below 2^63.
--- Assumes nothing.
 use mathlib.Core.Path.{_≡_, ap, _∙_}
 use Prim.Native.Nat.{_^_, _≤_}
 use native.Mathlib.Omega.{arith}
@@ -8,7 +7,7 @@ use mir.Syntax.{w64}
 use mir.Val.{SFits, toZ, ofZ}
 use mir.ValLaws.{toZ-ofZ}
 use Rattle.algebra.proofs.Integer.{square-natAbs}
-use Rattle.spectrum.specs.Line.{square}
+use Rattle.algebra.specs.Integers.{square}
 use Rattle.spectrum.proofs.Bounds.{square-le}
 use Rattle.spectrum.proofs.Signed.{sfits-natAbs}
 use Rattle.spectrum.proofs.squared.Statement.{statement}

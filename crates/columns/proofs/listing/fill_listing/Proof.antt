@@ -1,7 +1,7 @@
 -- `columns::listing::fill_listing` meets its contract.
 use native.Mathlib.Omega.{arith}
 use Rattle.columns.specs.Text.{bytesOf, rightJustified, Put}
-use Rattle.columns.specs.Listing.{lineLength, header, listingText}
+use Rattle.columns.specs.Listing.{textLineLength, header, listingText}
 use Rattle.columns.proofs.Lines.{header-length}
 use Rattle.columns.proofs.Puts.{put-then, put-copy}
 use Rattle.columns.proofs.Refusals.{listing-refused, listing-done}
@@ -31,7 +31,7 @@ header-put : (c : tie.After-copy) → Put (c .before .before .before .before .be
 unfolding header bytesOf rightJustified
 header-put c =
     let buffer = c .before .before .before .before .before .args .buffer .now in
-    rw (c .copy .ensures .0, c .copy .ensures .1) (put-copy buffer header lineLength header-length (omega arith))
+    rw (c .copy .ensures .0, c .copy .ensures .1) (put-copy buffer header textLineLength header-length (omega arith))
 
 returns-2 : tie.Need-returns-2
 unfolding listingText

@@ -3,7 +3,7 @@ use mathlib.Core.Path.{_≡_, sym, ap, _∙_}
 use native.Mathlib.Omega.{arith}
 use lib.IntN.{ℤ, pos}
 use Rattle.columns.specs.Listing.{refusalWidth, refusalLineLength}
-use Rattle.columns.specs.Calls.{writeFault, refusalLineFault}
+use Rattle.columns.specs.Calls.{writeRefusal, refusalLineRefusal}
 use Rattle.columns.proofs.Refusals.{no-fault, is-worked, is-unchanged}
 use Rattle.columns.proofs.Signed.{toZ-pos}
 use borrow.Author.Needs.{needs}
@@ -16,11 +16,11 @@ cast-write-fault c = search needs
 write-fault-requires : tie.Need-write-fault-requires
 write-fault-requires c κs = search needs
 
-fault-is : (c : tie.After-write-fault) → c .write-fault .result ≡ refusalLineFault (c .before .before .before .args .buffer .now) (c .before .before .before .args .refusal)
+fault-is : (c : tie.After-write-fault) → c .write-fault .result ≡ refusalLineRefusal (c .before .before .before .args .buffer .now) (c .before .before .before .args .refusal)
 fault-is c =
     let start = c .before .before .before in
     let number = toZ-pos (start .args .refusal) (omega (arith, start .fits .refusal .fits)) in
-    c .write-fault .ensures ∙ ap (λ (z : ℤ). writeFault refusalLineLength refusalWidth (start .args .buffer .now) z) number
+    c .write-fault .ensures ∙ ap (λ (z : ℤ). writeRefusal refusalLineLength refusalWidth (start .args .buffer .now) z) number
 
 put-refusal-line-requires : tie.Need-put-refusal-line-requires
 put-refusal-line-requires c κs =

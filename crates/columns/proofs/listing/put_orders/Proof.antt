@@ -5,14 +5,14 @@ use native.Mathlib.Numerals.{add-one}
 use native.Mathlib.Omega.{arith}
 use Rattle.rows.specs.Orders.{orderCount}
 use Rattle.columns.specs.Text.{Put}
-use Rattle.columns.specs.Listing.{lineLength, ordersText}
+use Rattle.columns.specs.Listing.{textLineLength, ordersText}
 use Rattle.columns.proofs.Puts.{put-none, put-then, put-length}
 use Rattle.columns.proofs.listing.put_orders.Statement.{statement}
 use Rattle.columns.proofs.listing.put_orders.Tie as tie
 
 abbrev Inv-loop : tie.InvT-loop
 Inv-loop buffer₀ start group subgroup smoothed at₀ done₀ buffer at done =
-    (done ≤ orderCount) × (at ≤ start + lineLength * done) × Put buffer₀ start (ordersText done group subgroup smoothed) at buffer
+    (done ≤ orderCount) × (at ≤ start + textLineLength * done) × Put buffer₀ start (ordersText done group subgroup smoothed) at buffer
 
 abbrev μ-loop : tie.MeasureT-loop
 μ-loop buffer₀ start group subgroup smoothed at₀ done₀ buffer at done = orderCount - done

@@ -3,7 +3,7 @@ use mathlib.Core.Path.{_≡_, sym, ap, _∙_}
 use lib.IntN.{ℤ}
 use mir.Facts.{toZ-ofZ}
 use Rattle.columns.specs.Column.{columnText}
-use Rattle.columns.specs.Calls.{columnWidth, columnWriteFault}
+use Rattle.columns.specs.Calls.{columnWidth, columnWriteRefusal}
 use Rattle.columns.proofs.Refusals.{no-fault, is-worked, is-unchanged}
 use borrow.Author.Needs.{needs}
 use Rattle.columns.proofs.writing.write_column.Statement.{statement}
@@ -12,10 +12,10 @@ use Rattle.columns.proofs.writing.write_column.Tie as tie
 write-fault-requires : tie.Need-write-fault-requires
 write-fault-requires c κs = search needs
 
-fault-is : (c : tie.After-write-fault) → c .write-fault .result ≡ columnWriteFault (c .before .before .before .args .buffer .now) (c .before .before .before .args .number)
+fault-is : (c : tie.After-write-fault) → c .write-fault .result ≡ columnWriteRefusal (c .before .before .before .args .buffer .now) (c .before .before .before .args .number)
 fault-is c =
     let start = c .before .before .before in
-    c .write-fault .ensures ∙ ap (λ (z : ℤ). columnWriteFault (start .args .buffer .now) z) (toZ-ofZ (start .fits .number))
+    c .write-fault .ensures ∙ ap (λ (z : ℤ). columnWriteRefusal (start .args .buffer .now) z) (toZ-ofZ (start .fits .number))
 
 fill-column-requires : tie.Need-fill-column-requires
 fill-column-requires c κs =

@@ -1,4 +1,4 @@
--- `groups::group::group_refusal` meets its contract: the refusal by the results of the tests, and each return by the tests that led to it. Assumes nothing.
+-- `groups::group::group_refusal` meets its contract: the refusal by the results of the tests, and each return by the tests that led to it.
 use mathlib.Core.Path.{_≡_}
 use mathlib.Core.Bool.{not, cond}
 use borrow.Author.Needs.{needs}

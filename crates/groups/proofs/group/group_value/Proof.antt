@@ -1,4 +1,4 @@
--- `groups::group::group_value` meets its contract: the refusal, or the value. Assumes nothing.
+-- `groups::group::group_value` meets its contract: the refusal, or the value.
 use borrow.Author.Tests.{ne-eqb}
 use borrow.Author.Needs.{needs}
 use Rattle.groups.specs.Group.{groupAnswer}

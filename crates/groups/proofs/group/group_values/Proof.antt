@@ -1,4 +1,4 @@
--- `groups::group::group_values` meets its contract: the refusal with zeros, or the values. Assumes nothing.
+-- `groups::group::group_values` meets its contract: the refusal with zeros, or the values.
 use mathlib.Core.Path.{_∙_}
 use borrow.Author.Needs.{needs}
 use Rattle.groups.specs.Group.{groupValuesAnswer}

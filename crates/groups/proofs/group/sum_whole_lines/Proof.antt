@@ -1,5 +1,5 @@
 -- `groups::group::sum_whole_lines` meets its contract. The loop's invariant: the sum is that of the first `i` lines.
--- The measure is the count of lines that are left. Assumes nothing.
+-- The measure is the count of lines that are left.
 use mathlib.Core.Path.{_≡_, refl}
 use Prim.Native.Nat.{_+_, _-_, _*_, _^_, _≤_, _<_}
 use native.Mathlib.Omega.{arith}

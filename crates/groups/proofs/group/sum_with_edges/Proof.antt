@@ -1,4 +1,4 @@
--- `groups::group::sum_with_edges` meets its contract: its sum is that of the two edges and of the lines between them, and it fits. Assumes nothing.
+-- `groups::group::sum_with_edges` meets its contract: its sum is that of the two edges and of the lines between them, and it fits.
 use Prim.Native.Nat.{_+_, _^_, _<_}
 use native.Mathlib.Omega.{arith}
 use borrow.Author.Needs.{needs}

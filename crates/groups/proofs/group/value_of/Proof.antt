@@ -1,4 +1,4 @@
--- `groups::group::value_of` meets its contract: the root of the weighted sum. Assumes nothing.
+-- `groups::group::value_of` meets its contract: the root of the weighted sum.
 use borrow.Author.Needs.{needs}
 use Rattle.groups.specs.Group.{groupValue}
 use Rattle.groups.proofs.group.value_of.Statement.{statement}

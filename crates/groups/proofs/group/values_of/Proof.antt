@@ -1,4 +1,4 @@
--- `groups::group::values_of` meets its contract. The loop's invariant: the values are filled up to `i`. The measure is the count of orders that are left. Assumes nothing.
+-- `groups::group::values_of` meets its contract. The loop's invariant: the values are filled up to `i`. The measure is the count of orders that are left.
 use mathlib.Core.Path.{_≡_, refl, sym, _∙_}
 use Prim.Native.Nat.{_+_, _-_, _≤_, _<_}
 use native.Mathlib.Omega.{arith}

@@ -1,4 +1,4 @@
--- `groups::group::weighted_sum` meets its contract: the lines of each kind, by the system's and the order's bounds, are among the 512. Assumes nothing.
+-- `groups::group::weighted_sum` meets its contract: the lines of each kind, by the system's and the order's bounds, are among the 512.
 use mathlib.Core.Path.{_≡_}
 use Prim.Native.Nat.{_+_, _-_, _*_, _/_, _^_, _<_}
 use native.Mathlib.Omega.{arith}

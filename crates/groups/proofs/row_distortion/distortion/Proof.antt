@@ -1,4 +1,4 @@
--- `groups::row_distortion::distortion` meets its contract: the refusal, or the root of the scaled sum divided by the first value. Assumes nothing.
+-- `groups::row_distortion::distortion` meets its contract: the refusal, or the root of the scaled sum divided by the first value.
 use mathlib.Core.Path.{_≡_, ap, _∙_}
 use mathlib.Core.List.{List}
 use Prim.Native.Nat.{ℕ, _/_}

@@ -1,5 +1,4 @@
 -- `integers::square_root::root` meets its contract. The loop's invariant: r is a candidate (`proofs/Newton.antt`); the measure is r, since a step from a candidate above the root gives a smaller one.
--- Assumes nothing.
 use native.Mathlib.Omega.{arith}
 use lib.Count.{leading-le}
 use Rattle.integers.proofs.Root.{Root, root-unique, lt-rootLimit}

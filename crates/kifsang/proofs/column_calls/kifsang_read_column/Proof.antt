@@ -1,4 +1,4 @@
--- `kifsang::column_calls::kifsang_read_column` meets its contract, by whether the text is a column. Assumes nothing.
+-- `kifsang::column_calls::kifsang_read_column` meets its contract, by whether the text is a column.
 use mathlib.Core.Path.{_≡_, _∙_}
 use borrow.Author.Needs.{needs}
 use mir.Syntax.{w64}

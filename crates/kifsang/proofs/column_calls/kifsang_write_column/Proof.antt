@@ -1,4 +1,4 @@
--- `kifsang::column_calls::kifsang_write_column` meets its contract: the number is handed on as it came. Assumes nothing.
+-- `kifsang::column_calls::kifsang_write_column` meets its contract: the number is handed on as it came.
 use mir.Syntax.{w64}
 use mir.Facts.{toZ-ofZ}
 use borrow.Author.Needs.{needs}

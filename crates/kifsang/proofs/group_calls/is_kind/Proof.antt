@@ -1,4 +1,4 @@
--- `kifsang::group_calls::is_kind` meets its contract: there are five kinds. Assumes nothing.
+-- `kifsang::group_calls::is_kind` meets its contract: there are five kinds.
 use mathlib.Core.Path.{refl}
 use Rattle.kifsang.specs.Kinds.{kinds, isKind}
 use Rattle.kifsang.proofs.group_calls.is_kind.Statement.{statement}

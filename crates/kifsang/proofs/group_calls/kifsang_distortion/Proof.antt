@@ -1,16 +1,16 @@
--- `kifsang::group_calls::kifsang_distortion` meets its contract: a wrong count of words, or the library's answer as it is received. Assumes nothing.
+-- `kifsang::group_calls::kifsang_distortion` meets its contract: a wrong count of words, or the library's answer as it is received.
 use mathlib.Core.Path.{_≡_, refl}
 use borrow.Author.Needs.{needs}
 use borrow.Author.Tests.{eq-eqb, ne-eqb}
 use Rattle.rows.specs.Orders.{orderCount}
 use Rattle.groups.specs.Distortion.{distortionOf, distortionAnswer}
-use Rattle.kifsang.specs.GroupCalls.{distortionCallRefusal, distortionCallValue}
+use Rattle.kifsang.specs.GroupCalls.{distortionCallRefusal, distortionCallExit}
 use Rattle.kifsang.proofs.Handed.{handed-answer}
 use Rattle.kifsang.proofs.group_calls.kifsang_distortion.Statement.{statement}
 use Rattle.kifsang.proofs.group_calls.kifsang_distortion.Tie as tie
 
 returns : tie.Need-returns
-unfolding distortionCallRefusal distortionCallValue
+unfolding distortionCallRefusal distortionCallExit
 returns c = rw (ne-eqb _ orderCount (c .if1 .taken)) (refl, refl)
 
 row-values-requires : tie.Need-row-values-requires
@@ -23,7 +23,7 @@ hand-over-requires : tie.Need-hand-over-requires
 hand-over-requires c κs = search needs
 
 returns-2 : tie.Need-returns-2
-unfolding distortionCallRefusal distortionCallValue distortionAnswer
+unfolding distortionCallRefusal distortionCallExit distortionAnswer
 returns-2 c =
     let at-call = c .before .before in
     let at-row = at-call .before in

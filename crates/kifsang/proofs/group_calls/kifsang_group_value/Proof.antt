@@ -1,11 +1,11 @@
--- `kifsang::group_calls::kifsang_group_value` meets its contract: an unknown kind, or the library's answer as it is received. Assumes nothing.
+-- `kifsang::group_calls::kifsang_group_value` meets its contract: an unknown kind, or the library's answer as it is received.
 use mathlib.Core.Path.{_≡_, refl, sym, _∙_}
 use mathlib.Core.Bool.{true, false}
 use borrow.Author.Needs.{needs}
 use borrow.Author.Tests.{not-true, not-false}
 use Rattle.groups.specs.Group.{groupRefusal, groupValue, groupAnswer}
 use Rattle.kifsang.specs.Kinds.{isKind, kindWith}
-use Rattle.kifsang.specs.GroupCalls.{groupCallRefusal, groupCallValue}
+use Rattle.kifsang.specs.GroupCalls.{groupCallRefusal, groupCallExit}
 use Rattle.kifsang.proofs.Handed.{handed-answer}
 use Rattle.kifsang.proofs.group_calls.kifsang_group_value.Statement.{statement}
 use Rattle.kifsang.proofs.group_calls.kifsang_group_value.Tie as tie
@@ -14,7 +14,7 @@ is-kind-requires : tie.Need-is-kind-requires
 is-kind-requires c κs = search needs
 
 returns : tie.Need-returns
-unfolding groupCallRefusal groupCallValue
+unfolding groupCallRefusal groupCallExit
 returns c =
     let unknown : isKind (c .before .before .before .args .kind) ≡ false =
     sym (c .before .is-kind .ensures) ∙ not-true _ (c .if1 .taken) in
@@ -30,7 +30,7 @@ hand-over-requires : tie.Need-hand-over-requires
 hand-over-requires c κs = search needs
 
 returns-2 : tie.Need-returns-2
-unfolding groupCallRefusal groupCallValue groupAnswer
+unfolding groupCallRefusal groupCallExit groupAnswer
 returns-2 c =
     let at-call = c .before .before in
     let at-kind = at-call .before in

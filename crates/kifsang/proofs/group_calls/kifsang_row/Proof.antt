@@ -1,4 +1,4 @@
--- `kifsang::group_calls::kifsang_row` meets its contract: the own checks, or the library's values as they are received. Assumes nothing.
+-- `kifsang::group_calls::kifsang_row` meets its contract: the own checks, or the library's values as they are received.
 use mathlib.Core.Path.{_≡_, refl, sym, _∙_}
 use mathlib.Core.Bool.{true, false}
 use borrow.Author.Needs.{needs}
@@ -6,7 +6,7 @@ use borrow.Author.Tests.{eq-eqb, ne-eqb, not-true, not-false}
 use Rattle.groups.specs.Group.{groupValuesAnswer}
 use Rattle.rows.specs.Orders.{orderCount}
 use Rattle.kifsang.specs.Kinds.{isKind, kindWith}
-use Rattle.kifsang.specs.GroupCalls.{rowCallRefusal, rowCallValues}
+use Rattle.kifsang.specs.GroupCalls.{rowCallRefusal, rowCallExit}
 use Rattle.kifsang.proofs.group_calls.kifsang_row.Statement.{statement}
 use Rattle.kifsang.proofs.group_calls.kifsang_row.Tie as tie
 
@@ -21,11 +21,11 @@ known : (c : tie.Else1) → isKind (c .before .before .before .before .args .kin
 known c = sym (c .before .is-kind .ensures) ∙ not-false _ (c .if1 .left)
 
 returns : tie.Need-returns
-unfolding rowCallRefusal rowCallValues
+unfolding rowCallRefusal rowCallExit
 returns c = rw (unknown c) (refl, refl)
 
 returns-2 : tie.Need-returns-2
-unfolding rowCallRefusal rowCallValues
+unfolding rowCallRefusal rowCallExit
 returns-2 c = rw (known (c .before), ne-eqb _ orderCount (c .if2 .taken)) (refl, refl)
 
 kind-with-requires : tie.Need-kind-with-requires
@@ -41,7 +41,7 @@ same-length : tie.Need-same-length
 same-length c = search needs
 
 returns-3 : tie.Need-returns-3
-unfolding rowCallRefusal rowCallValues groupValuesAnswer
+unfolding rowCallRefusal rowCallExit groupValuesAnswer
 returns-3 c =
     let at-hand = c .before .before in
     let at-call = at-hand .before .before in

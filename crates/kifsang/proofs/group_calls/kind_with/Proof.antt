@@ -1,4 +1,4 @@
--- `kifsang::group_calls::kind_with` meets its contract: each arm is the kind at its place, and the last that of every other number. Assumes nothing.
+-- `kifsang::group_calls::kind_with` meets its contract: each arm is the kind at its place, and the last that of every other number.
 use mathlib.Core.Path.{_≡_, refl}
 use Prim.Native.Nat.{ℕ, zero, suc}
 use Rattle.groups.specs.declared.Kind.the-variants.{InterharmonicCentredSubgroup}

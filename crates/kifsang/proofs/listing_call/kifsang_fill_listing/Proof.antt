@@ -1,24 +1,24 @@
--- `kifsang::listing_call::kifsang_fill_listing` meets its contract: a wrong count of words in a row, or the library's listing as it is received. Assumes nothing.
+-- `kifsang::listing_call::kifsang_fill_listing` meets its contract: a wrong count of words in a row, or the library's listing as it is received.
 use mathlib.Core.Path.{refl}
 use borrow.Author.Needs.{needs}
 use borrow.Author.Tests.{eq-eqb, ne-eqb}
 use Rattle.rows.specs.Orders.{orderCount}
-use Rattle.kifsang.specs.ListingCall.{listingCallRefusal, listingCallBytes, listingCallCount}
+use Rattle.kifsang.specs.ListingCall.{listingCallRefusal, listingCallExit, listingCallCountExit}
 use Rattle.kifsang.proofs.ListingReceived.{listing-received}
 use Rattle.kifsang.proofs.listing_call.kifsang_fill_listing.Statement.{statement}
 use Rattle.kifsang.proofs.listing_call.kifsang_fill_listing.Tie as tie
 
 returns : tie.Need-returns
-unfolding listingCallRefusal listingCallBytes listingCallCount
+unfolding listingCallRefusal listingCallExit listingCallCountExit
 returns c = rw (ne-eqb _ orderCount (c .if1 .taken)) (refl, (refl, refl))
 
 returns-2 : tie.Need-returns-2
-unfolding listingCallRefusal listingCallBytes listingCallCount
+unfolding listingCallRefusal listingCallExit listingCallCountExit
 returns-2 c =
     rw (eq-eqb _ orderCount (c .before .if1 .left), ne-eqb _ orderCount (c .if2 .taken)) (refl, (refl, refl))
 
 returns-3 : tie.Need-returns-3
-unfolding listingCallRefusal listingCallBytes listingCallCount
+unfolding listingCallRefusal listingCallExit listingCallCountExit
 returns-3 c =
     rw (
       eq-eqb _ orderCount (c .before .before .if1 .left),

@@ -1,4 +1,4 @@
--- `kifsang::record_calls::kifsang_add_row` meets its contract: a wrong count of words, a record whose counts pass 32 bits, or the library's record as it is received. Assumes nothing.
+-- `kifsang::record_calls::kifsang_add_row` meets its contract: a wrong count of words, a record whose counts pass 32 bits, or the library's record as it is received.
 use mathlib.Core.Path.{_≡_, refl, sym, _∙_}
 use mathlib.Core.Bool.{false}
 use borrow.Author.Needs.{needs}
@@ -7,18 +7,18 @@ use Rattle.rows.specs.Orders.{orderCount}
 use Rattle.observation.specs.declared.Observation.{Observation}
 use Rattle.observation.specs.Calls.{withRow, addRowRefusal, addRowAnswer}
 use Rattle.kifsang.specs.Words.{recordWords, recordOf, countsFit}
-use Rattle.kifsang.specs.RecordCalls.{lentRow, addRowCallRefusal, addRowCallWords}
+use Rattle.kifsang.specs.RecordCalls.{lentRow, addRowCallRefusal, addRowCallExit}
 use Rattle.kifsang.proofs.Handed.{handed-record}
 use Rattle.kifsang.proofs.RecordWords.{unsound-of-large}
 use Rattle.kifsang.proofs.record_calls.kifsang_add_row.Statement.{statement}
 use Rattle.kifsang.proofs.record_calls.kifsang_add_row.Tie as tie
 
 returns : tie.Need-returns
-unfolding addRowCallRefusal addRowCallWords
+unfolding addRowCallRefusal addRowCallExit
 returns c = rw (ne-eqb _ recordWords (c .if1 .taken)) (refl, refl)
 
 returns-2 : tie.Need-returns-2
-unfolding addRowCallRefusal addRowCallWords
+unfolding addRowCallRefusal addRowCallExit
 returns-2 c = rw (eq-eqb _ recordWords (c .before .if1 .left), ne-eqb _ orderCount (c .if2 .taken)) (refl, refl)
 
 counts-fit-requires : tie.Need-counts-fit-requires
@@ -28,7 +28,7 @@ same-length : tie.Need-same-length
 same-length c = search needs
 
 returns-3 : tie.Need-returns-3
-unfolding addRowCallRefusal addRowCallWords addRowRefusal
+unfolding addRowCallRefusal addRowCallExit addRowRefusal
 returns-3 c =
     let at-values = c .before .before .before in
     let words = c .before .before .before .before .before .before .before .args .words .now in
@@ -58,7 +58,7 @@ same-length-2 : tie.Need-same-length-2
 same-length-2 c = search needs
 
 returns-4 : tie.Need-returns-4
-unfolding addRowCallRefusal addRowCallWords addRowAnswer
+unfolding addRowCallRefusal addRowCallExit addRowAnswer
 returns-4 c =
     let at-hand = c .before .before in
     let at-add = at-hand .before .before in

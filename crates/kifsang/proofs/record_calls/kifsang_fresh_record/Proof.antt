@@ -1,17 +1,17 @@
--- `kifsang::record_calls::kifsang_fresh_record` meets its contract: a wrong count of words, or the library's record as it is received. Assumes nothing.
+-- `kifsang::record_calls::kifsang_fresh_record` meets its contract: a wrong count of words, or the library's record as it is received.
 use mathlib.Core.Path.{refl}
 use borrow.Author.Needs.{needs}
 use borrow.Author.Tests.{eq-eqb, ne-eqb}
 use Rattle.observation.specs.Calls.{emptyRecord, freshRefusal, freshAnswer}
 use Rattle.rows.specs.Systems.{refusedSystem}
 use Rattle.kifsang.specs.Words.{recordWords}
-use Rattle.kifsang.specs.RecordCalls.{freshCallRefusal, freshCallWords}
+use Rattle.kifsang.specs.RecordCalls.{freshCallRefusal, freshCallExit}
 use Rattle.kifsang.proofs.Handed.{handed-record}
 use Rattle.kifsang.proofs.record_calls.kifsang_fresh_record.Statement.{statement}
 use Rattle.kifsang.proofs.record_calls.kifsang_fresh_record.Tie as tie
 
 returns : tie.Need-returns
-unfolding freshCallRefusal freshCallWords
+unfolding freshCallRefusal freshCallExit
 returns c = rw (ne-eqb _ recordWords (c .if1 .taken)) (refl, refl)
 
 fresh-record-requires : tie.Need-fresh-record-requires
@@ -24,7 +24,7 @@ same-length : tie.Need-same-length
 same-length c = search needs
 
 returns-2 : tie.Need-returns-2
-unfolding freshCallRefusal freshCallWords freshAnswer
+unfolding freshCallRefusal freshCallExit freshAnswer
 returns-2 c =
     let at-hand = c .before .before in
     let at-call = at-hand .before .before in

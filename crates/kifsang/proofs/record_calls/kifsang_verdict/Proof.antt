@@ -1,25 +1,25 @@
--- `kifsang::record_calls::kifsang_verdict` meets its contract: a wrong count of words, a record whose counts pass 32 bits, the verdict's number or the refusal. Assumes nothing.
+-- `kifsang::record_calls::kifsang_verdict` meets its contract: a wrong count of words, a record whose counts pass 32 bits, the verdict's number or the refusal.
 use mathlib.Core.Path.{_≡_, refl, sym, ap, _∙_}
 use mathlib.Core.Bool.{false}
 use borrow.Author.Needs.{needs}
 use borrow.Author.Tests.{eq-eqb, ne-eqb, not-true, not-false}
 use Rattle.verdict.specs.Call.{verdictRefusal, verdictAnswer}
 use Rattle.kifsang.specs.Words.{recordWords, recordOf, countsFit}
-use Rattle.kifsang.specs.RecordCalls.{verdictNumber, verdictCallRefusal, verdictCallNumber}
+use Rattle.kifsang.specs.RecordCalls.{verdictNumber, verdictCallRefusal, verdictCallExit}
 use Rattle.kifsang.proofs.RecordWords.{unsound-of-large}
 use Rattle.kifsang.proofs.VerdictCases.{given-case, refused-case}
 use Rattle.kifsang.proofs.record_calls.kifsang_verdict.Statement.{statement}
 use Rattle.kifsang.proofs.record_calls.kifsang_verdict.Tie as tie
 
 returns : tie.Need-returns
-unfolding verdictCallRefusal verdictCallNumber
+unfolding verdictCallRefusal verdictCallExit
 returns c = rw (ne-eqb _ recordWords (c .if1 .taken)) (refl, refl)
 
 counts-fit-requires : tie.Need-counts-fit-requires
 counts-fit-requires c κs = search needs
 
 returns-2 : tie.Need-returns-2
-unfolding verdictCallRefusal verdictCallNumber verdictRefusal
+unfolding verdictCallRefusal verdictCallExit verdictRefusal
 returns-2 c =
     let words = c .before .before .before .before .args .words .now in
     let large : countsFit words ≡ false = sym (c .before .counts-fit .ensures) ∙ not-true _ (c .if2 .taken) in
@@ -43,7 +43,7 @@ verdict-number-requires : tie.Need-verdict-number-requires
 verdict-number-requires c κs = search needs
 
 returns-3 : tie.Need-returns-3
-unfolding verdictCallRefusal verdictCallNumber
+unfolding verdictCallRefusal verdictCallExit
 returns-3 c =
     let at-match = c .before .before in
     let at-verdict = at-match .before .before in
@@ -57,7 +57,7 @@ enum-known-answered-2 : tie.Need-enum-known-answered-2
 enum-known-answered-2 c = search needs
 
 returns-4 : tie.Need-returns-4
-unfolding verdictCallRefusal verdictCallNumber
+unfolding verdictCallRefusal verdictCallExit
 returns-4 c =
     let at-match = c .before in
     let at-verdict = at-match .before .before in

@@ -1,4 +1,4 @@
--- `kifsang::record_calls::verdict_number` meets its contract, case by case. Assumes nothing.
+-- `kifsang::record_calls::verdict_number` meets its contract, case by case.
 use mathlib.Core.Path.{sym, ap}
 use borrow.Author.Needs.{needs}
 use Rattle.kifsang.specs.RecordCalls.{verdictNumber}

@@ -1,4 +1,4 @@
--- `kifsang::record_words::counts_fit` meets its contract. Assumes nothing.
+-- `kifsang::record_words::counts_fit` meets its contract.
 use mathlib.Core.Path.{refl}
 use borrow.Author.Needs.{needs}
 use Rattle.kifsang.specs.Words.{countsFit}

@@ -1,4 +1,4 @@
--- `kifsang::record_words::hand_over_record` meets its contract, by whether the call was refused. Assumes nothing.
+-- `kifsang::record_words::hand_over_record` meets its contract, by whether the call was refused.
 use mathlib.Core.Path.{refl, sym}
 use borrow.Author.Needs.{needs}
 use borrow.Author.Tests.{ne-eqb}

@@ -1,5 +1,5 @@
 -- `kifsang::record_words::put_values` meets its contract. The loop's invariant: the first `i` values are pasted into the words at the place.
--- The measure is the count of values that are left. Assumes nothing.
+-- The measure is the count of values that are left.
 use mathlib.Core.Path.{_≡_, refl}
 use Prim.Native.Nat.{_+_, _-_, _≤_, _<_}
 use native.Mathlib.Numerals.{add-one}

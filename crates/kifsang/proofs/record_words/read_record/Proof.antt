@@ -1,4 +1,4 @@
--- `kifsang::record_words::read_record` meets its contract. Assumes nothing.
+-- `kifsang::record_words::read_record` meets its contract.
 use native.Mathlib.Omega.{arith}
 use borrow.Author.Needs.{needs}
 use Rattle.kifsang.specs.Words.{recordOf}

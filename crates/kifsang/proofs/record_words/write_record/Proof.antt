@@ -1,4 +1,4 @@
--- `kifsang::record_words::write_record` meets its contract: the two counts and the three parts, each at its place. Assumes nothing.
+-- `kifsang::record_words::write_record` meets its contract: the two counts and the three parts, each at its place.
 use mathlib.Core.Path.{_≡_, sym, ap, _∙_}
 use mathlib.Core.List.{List, _++_}
 use Prim.Native.Nat.{ℕ}

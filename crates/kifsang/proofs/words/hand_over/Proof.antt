@@ -1,4 +1,4 @@
--- `kifsang::words::hand_over` meets its contract, by whether the answer is a refusal. Assumes nothing.
+-- `kifsang::words::hand_over` meets its contract, by whether the answer is a refusal.
 use mathlib.Core.Path.{refl, sym}
 use borrow.Author.Tests.{ne-eqb}
 use Rattle.refusals.specs.Numbers.{noRefusal}

@@ -1,4 +1,4 @@
--- `kifsang::words::hand_over_values` meets its contract, by whether the call was refused. Assumes nothing.
+-- `kifsang::words::hand_over_values` meets its contract, by whether the call was refused.
 use mathlib.Core.Path.{refl}
 use borrow.Author.Needs.{needs}
 use borrow.Author.Tests.{ne-eqb}

@@ -1,5 +1,5 @@
 -- `kifsang::words::put_row` meets its contract. The loop's invariant: the values are filled up to `i` with the row's.
--- The measure is the count of values that are left. Assumes nothing.
+-- The measure is the count of values that are left.
 use mathlib.Core.Path.{_≡_, refl, _∙_}
 use Prim.Native.Nat.{_-_, _≤_, _<_}
 use native.Mathlib.Omega.{arith}

@@ -1,4 +1,4 @@
--- `kifsang::words::row_values` meets its contract: of 40 words the first 40 are all. Assumes nothing.
+-- `kifsang::words::row_values` meets its contract: of 40 words the first 40 are all.
 use mathlib.Core.Path.{_∙_}
 use borrow.Author.Needs.{needs}
 use Rattle.rows.proofs.Rows.{firstValues-whole}

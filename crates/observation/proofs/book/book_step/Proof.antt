@@ -1,4 +1,4 @@
--- `observation::book::book_step` meets its contract. The sum fits, since the smoothed value is no larger than a value of 32 bits. Assumes nothing.
+-- `observation::book::book_step` meets its contract. The sum fits, since the smoothed value is no larger than a value of 32 bits.
 use Prim.Native.Nat.{_≤_}
 use native.Mathlib.Omega.{arith}
 use borrow.Author.Needs.{needs}

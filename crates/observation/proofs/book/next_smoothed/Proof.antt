@@ -1,4 +1,4 @@
--- `observation::book::next_smoothed` meets its contract, by cases on the count. Assumes nothing.
+-- `observation::book::next_smoothed` meets its contract, by cases on the count.
 use borrow.Author.Needs.{needs}
 use borrow.Author.Tests.{eq-eqb, ne-eqb}
 use Rattle.observation.specs.Book.{smoothedNext}

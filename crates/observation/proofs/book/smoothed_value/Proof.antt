@@ -1,4 +1,4 @@
--- `observation::book::smoothed_value` meets its contract: the sum fits 64 bits for values of 32. Assumes nothing.
+-- `observation::book::smoothed_value` meets its contract: the sum fits 64 bits for values of 32.
 use borrow.Author.Needs.{needs}
 use mathlib.Core.Path.{refl}
 use Rattle.algebra.specs.Rounding.{nearest}

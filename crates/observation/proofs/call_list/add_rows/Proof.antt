@@ -1,12 +1,12 @@
 -- `observation::call_list::add_rows` meets its contract. The loop's invariant: the record is the one after the calls of the first `i` rows.
--- The measure is the count of rows that are left. Assumes nothing.
+-- The measure is the count of rows that are left.
 use mathlib.Core.Path.{_≡_, refl, sym, _∙_, ap}
 use Prim.Native.Nat.{_≤_, _-_, _/_}
 use native.Mathlib.Omega.{arith}
 use borrow.Author.Needs.{needs}
 use lib.ListN.{length}
 use Rattle.algebra.specs.Lists.{tabulate}
-use Rattle.observation.specs.declared.Recorded.{Recorded}
+use Rattle.observation.specs.declared.RecordAnswer.{RecordAnswer}
 use Rattle.observation.specs.CallList.{recordAfter, rowWords, rowAt, rowsIn}
 use Rattle.observation.proofs.CallList.{record-after-tabulate}
 use Rattle.observation.proofs.call_list.add_rows.Statement.{statement}
@@ -41,7 +41,7 @@ loop-again c =
     let turn = c .before .before .before .before .loop in
     let answer = c .before .add-row in (
       omega arith,
-      ap (λ (recorded : Recorded). recorded .observation) (answer .ensures) ∙
+      ap (λ (recorded : RecordAnswer). recorded .observation) (answer .ensures) ∙
           (rw (turn .inv .1, c .before .before .row-at .ensures) refl ∙
           sym (record-after-tabulate (a .observation) (turn .i) (rowAt (a .rows .now)))),
     )

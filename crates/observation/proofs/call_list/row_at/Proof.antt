@@ -1,4 +1,4 @@
--- `observation::call_list::row_at` meets its contract: the words after the row's system are its values. Assumes nothing.
+-- `observation::call_list::row_at` meets its contract: the words after the row's system are its values.
 use mathlib.Core.Path.{_≡_, _∙_}
 use Prim.Native.Nat.{_+_, _-_, _*_, _≤_}
 use native.Mathlib.Omega.{arith}

@@ -1,4 +1,4 @@
--- `observation::calls::add_row` meets its contract, by what the refusal and the record with the row are. Assumes nothing.
+-- `observation::calls::add_row` meets its contract, by what the refusal and the record with the row are.
 use borrow.Author.Tests.{ne-eqb}
 use Rattle.observation.specs.Calls.{addRowAnswer}
 use borrow.Author.Needs.{needs}

@@ -1,4 +1,4 @@
--- `observation::calls::add_row_refusal` meets its contract: the checks are made in the order of the definition. Assumes nothing.
+-- `observation::calls::add_row_refusal` meets its contract: the checks are made in the order of the definition.
 use borrow.Author.Needs.{needs}
 use Rattle.observation.specs.Calls.{rowChecks, addRowRefusal}
 use Rattle.observation.proofs.calls.add_row_refusal.Statement.{statement}

@@ -1,4 +1,4 @@
--- `observation::calls::empty_record` meets its contract. Assumes nothing.
+-- `observation::calls::empty_record` meets its contract.
 use mathlib.Core.Path.{refl}
 use Rattle.observation.specs.Calls.{emptyRecord}
 use Rattle.observation.proofs.calls.empty_record.Statement.{statement}

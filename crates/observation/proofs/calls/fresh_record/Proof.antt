@@ -1,4 +1,4 @@
--- `observation::calls::fresh_record` meets its contract, by cases on the system. Assumes nothing.
+-- `observation::calls::fresh_record` meets its contract, by cases on the system.
 use borrow.Author.Needs.{needs}
 use mathlib.Core.Path.{_≡_, sym, _∙_}
 use mathlib.Core.Bool.{true, false}

@@ -1,5 +1,5 @@
 -- `observation::calls::with_row` meets its contract. The loop's invariant: each array is filled up to `i` with the next books, and holds the old numbers from there on.
--- The measure is the count of places that are left. The sums fit because the record is sound. Assumes nothing.
+-- The measure is the count of places that are left. The sums fit because the record is sound.
 use mathlib.Core.Path.{_≡_, refl, _∙_, ap}
 use mathlib.Core.List.{List}
 use Prim.Native.Nat.{ℕ, _≤_, _<_, _-_}

@@ -1,4 +1,4 @@
--- `observation::soundness::all_zero` meets its contract, by what `none_above` ensures of the three arrays. Assumes nothing.
+-- `observation::soundness::all_zero` meets its contract, by what `none_above` ensures of the three arrays.
 use borrow.Author.Needs.{needs}
 use Rattle.observation.specs.Soundness.{allZero}
 use Rattle.observation.proofs.soundness.all_zero.Statement.{statement}

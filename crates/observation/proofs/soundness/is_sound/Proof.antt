@@ -1,4 +1,4 @@
--- `observation::soundness::is_sound` meets its contract: each part of the test is a part of the definition. Assumes nothing.
+-- `observation::soundness::is_sound` meets its contract: each part of the test is a part of the definition.
 use borrow.Author.Needs.{needs}
 use Rattle.observation.specs.Soundness.{isSound}
 use Rattle.observation.proofs.soundness.is_sound.Statement.{statement}

@@ -1,4 +1,4 @@
--- `observation::soundness::none_above` meets its contract. Assumes nothing.
+-- `observation::soundness::none_above` meets its contract.
 use mathlib.Core.Path.{ap}
 use mathlib.Core.Bool.{not}
 use borrow.Author.Needs.{needs}

@@ -1,11 +1,11 @@
--- `recordings::blocks::begin` meets its contract, by what the first line was read as. Assumes nothing.
+-- `recordings::blocks::begin` meets its contract, by what the first line was read as.
 use mathlib.Core.Path.{_≡_, refl, sym, ap, _∙_}
 use borrow.Author.Needs.{needs}
 use mir.Facts.{toZ-ofZ}
 use mir.Syntax.{w64}
-use Rattle.columns.specs.declared.Number.{Number}
+use Rattle.columns.specs.declared.NumberAnswer.{NumberAnswer}
 use Rattle.observation.specs.Calls.{freshAnswer}
-use Rattle.recordings.specs.Lines.{lineAt, lineNumber}
+use Rattle.recordings.specs.Lines.{textLineAt, textLineNumber}
 use Rattle.recordings.specs.Steps.{systemWord}
 use Rattle.recordings.proofs.FirstLine.{begin-refused, begin-taken}
 use Rattle.recordings.proofs.blocks.begin.Statement.{statement}
@@ -33,10 +33,10 @@ returns : tie.Need-returns
 returns c =
     let line = c .before .before .before .before .before .before .before .before .before .args .line .now in
     let read = c .before .before .before .before .before .before .before .number-on-line in
-    let o = lineNumber (lineAt line 0) in
+    let o = textLineNumber (textLineAt line 0) in
     c .reading-of-none .ensures
     ∙ rw (fresh-is (c .before .before .before .before), read .ensures)
-    (begin-refused line o refl (λ z. c .before .if1 .taken (ap (λ (n : Number). n .refusal) (read .ensures) ∙ z)))
+    (begin-refused line o refl (λ z. c .before .if1 .taken (ap (λ (n : NumberAnswer). n .refusal) (read .ensures) ∙ z)))
 
 reading-of-none-requires-2 : tie.Need-reading-of-none-requires-2
 reading-of-none-requires-2 c κs = search needs
@@ -45,10 +45,10 @@ returns-2 : tie.Need-returns-2
 returns-2 c =
     let line = c .before .before .before .before .before .before .before .before .before .args .line .now in
     let read = c .before .before .before .before .before .before .before .number-on-line in
-    let o = lineNumber (lineAt line 0) in
+    let o = textLineNumber (textLineAt line 0) in
     c .reading-of-none2 .ensures
     ∙ rw (fresh-is (c .before .before .before .before), read .ensures)
-    (begin-taken line o refl (sym (ap (λ (n : Number). n .refusal) (read .ensures)) ∙ c .before .if1 .left))
+    (begin-taken line o refl (sym (ap (λ (n : NumberAnswer). n .refusal) (read .ensures)) ∙ c .before .if1 .left))
 
 pub begin-spec : {M : Type 1} → statement M
 begin-spec =

@@ -1,4 +1,4 @@
--- `recordings::blocks::block_lines` meets its contract. Assumes nothing.
+-- `recordings::blocks::block_lines` meets its contract.
 use borrow.Author.Needs.{needs}
 use Rattle.recordings.proofs.BlockLaws.{lines-of-whole, lines-of-short}
 use Rattle.recordings.proofs.blocks.block_lines.Statement.{statement}

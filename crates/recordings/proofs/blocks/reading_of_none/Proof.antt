@@ -1,4 +1,4 @@
--- `recordings::blocks::reading_of_none` meets its contract. Assumes nothing.
+-- `recordings::blocks::reading_of_none` meets its contract.
 use mathlib.Core.Path.{refl}
 use Rattle.recordings.specs.Steps.{readingOfNone}
 use Rattle.recordings.proofs.blocks.reading_of_none.Statement.{statement}

@@ -1,4 +1,4 @@
--- `recordings::blocks::system_word` meets its contract. Assumes nothing.
+-- `recordings::blocks::system_word` meets its contract.
 use mathlib.Core.Bool.{true, false, true≢false}
 use mathlib.Core.Path.{_≡_, refl}
 use native.Mathlib.Nat.{not-suc-le-zero}

@@ -1,4 +1,4 @@
--- `recordings::blocks::take_block` meets its contract, by a law for each way. Assumes nothing.
+-- `recordings::blocks::take_block` meets its contract, by a law for each way.
 use mathlib.Core.Path.{_≡_, refl, sym, ap, _∙_}
 use Prim.Native.Nat.{ℕ}
 use borrow.Author.Needs.{needs}
@@ -8,7 +8,7 @@ use Rattle.algebra.proofs.Lists.{filled-tabulate}
 use Rattle.refusals.specs.Numbers.{noRefusal}
 use Rattle.spectrum.specs.Line.{windowLength}
 use Rattle.recordings.specs.Lines.{numberAt}
-use Rattle.recordings.specs.Reading.{faultOfLines, blockLines, samplesOf, refusedWith, windowTaken}
+use Rattle.recordings.specs.Reading.{textLinesRefusal, blockLines, samplesOf, refusedWith, windowTaken}
 use Rattle.recordings.proofs.Samples.{length-samples, samples-in-range}
 use Rattle.recordings.proofs.BlockLaws.{lines-of-whole, block-lines-fit, block-of-refused, block-of-none, block-of-fault, block-of-short, block-of-whole}
 use Rattle.recordings.proofs.blocks.take_block.Statement.{statement}
@@ -35,9 +35,9 @@ read-samples-requires c κs =
     rw (c .before .block-lines .ensures) (block-lines-fit (c .before .before .before .before .before .before .args .block .now))
 
 -- the answer of the reader is the fault of the block's lines
-fault-is : (c : tie.After-read-samples) → c .read-samples .result ≡ faultOfLines (c .before .before .before .before .before .before .before .args .block .now) (blockLines (c .before .before .before .before .before .before .before .args .block .now))
+fault-is : (c : tie.After-read-samples) → c .read-samples .result ≡ textLinesRefusal (c .before .before .before .before .before .before .before .args .block .now) (blockLines (c .before .before .before .before .before .before .before .args .block .now))
 fault-is c =
-    c .read-samples .ensures .fault-is ∙ ap (faultOfLines (c .before .before .before .before .before .before .before .args .block .now)) (c .before .before .block-lines .ensures)
+    c .read-samples .ensures .fault-is ∙ ap (textLinesRefusal (c .before .before .before .before .before .before .before .args .block .now)) (c .before .before .block-lines .ensures)
 
 refused-with-requires : tie.Need-refused-with-requires
 refused-with-requires c κs = search needs
@@ -73,7 +73,7 @@ samples-are c =
     rw count at (read .read-samples .ensures .samples-are (c .before .if3 .left))
     ∙ filled-tabulate windowLength (numberAt block) (replicate windowLength (pos 0)) refl
 
-no-fault : (c : tie.Else4) → faultOfLines (c .before .before .before .before .before .before .before .before .before .before .args .block .now) (blockLines (c .before .before .before .before .before .before .before .before .before .before .args .block .now)) ≡ noRefusal
+no-fault : (c : tie.Else4) → textLinesRefusal (c .before .before .before .before .before .before .before .before .before .before .args .block .now) (blockLines (c .before .before .before .before .before .before .before .before .before .before .args .block .now)) ≡ noRefusal
 no-fault c = sym (fault-is (c .before .before .before)) ∙ c .before .if3 .left
 
 slice-aggregate-take-window : tie.Need-slice-aggregate-take-window

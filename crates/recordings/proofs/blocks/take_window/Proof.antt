@@ -1,4 +1,4 @@
--- `recordings::blocks::take_window` meets its contract. Assumes nothing.
+-- `recordings::blocks::take_window` meets its contract.
 use mathlib.Core.Path.{refl, _∙_}
 use borrow.Author.Needs.{needs}
 use Rattle.groups.specs.Group.{groupValuesAnswer}

@@ -1,11 +1,11 @@
--- `recordings::ending::finish` meets its contract, by a law for each way. Assumes nothing.
+-- `recordings::ending::finish` meets its contract, by a law for each way.
 use mathlib.Core.Path.{sym, ap, _∙_}
 use native.Mathlib.Omega.{arith}
 use borrow.Author.Needs.{needs}
 use lib.ListN.{take}
 use lib.Seq.{length-take-le}
 use Rattle.columns.specs.Listing.{refusalLineLength}
-use Rattle.columns.specs.Calls.{refusalLineWritten}
+use Rattle.columns.specs.Calls.{refusalLineExit}
 use Rattle.recordings.proofs.Written.{refusal-line-written, finish-fault-le, sound-of-finish, written-not, written-refusal, answer-listing, written-listing}
 use Rattle.recordings.proofs.ending.finish.Statement.{statement}
 use Rattle.recordings.proofs.ending.finish.Tie as tie
@@ -51,7 +51,7 @@ returns-3 c =
     let fault = c .before .before .before .before .before .finish-fault .ensures in
     let part = length-take-le refusalLineLength buffer (omega arith) in
     let line = c .before .before .fill-refusal-line .ensures .1
-    ∙ ap (refusalLineWritten (take refusalLineLength buffer)) fault
+    ∙ ap (refusalLineExit (take refusalLineLength buffer)) fault
     ∙ refusal-line-written (take refusalLineLength buffer) _ part (finish-fault-le (a .reading)) in
     written-refusal (a .reading) buffer _ (omega arith) (λ z. c .before .before .before .before .if2 .left (fault ∙ z)) line
 

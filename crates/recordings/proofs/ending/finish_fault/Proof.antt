@@ -1,4 +1,4 @@
--- `recordings::ending::finish_fault` meets its contract: the checks are made in the order of the definition. Assumes nothing.
+-- `recordings::ending::finish_fault` meets its contract: the checks are made in the order of the definition.
 use mathlib.Core.Path.{sym, _∙_}
 use borrow.Author.Needs.{needs}
 use borrow.Author.Tests.{not-true, not-false}

@@ -1,4 +1,4 @@
--- `recordings::ending::put_listing` meets its contract: a sound record's smoothed values fit 32 bits. Assumes nothing.
+-- `recordings::ending::put_listing` meets its contract: a sound record's smoothed values fit 32 bits.
 use borrow.Author.Needs.{needs}
 use Rattle.recordings.proofs.Written.{sound-smoothed}
 use Rattle.recordings.proofs.ending.put_listing.Statement.{statement}

@@ -1,4 +1,4 @@
--- `recordings::lines::number_on_line` meets its contract. Assumes nothing.
+-- `recordings::lines::number_on_line` meets its contract.
 use mathlib.Core.Path.{_∙_}
 use native.Mathlib.Omega.{arith}
 use borrow.Author.Needs.{needs}

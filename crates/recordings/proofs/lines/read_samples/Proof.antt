@@ -1,5 +1,5 @@
 -- `recordings::lines::read_samples` meets its contract. The loop's invariant: the lines passed have no fault, and their samples stand in front of what was there.
--- The measure is the count of lines that are left. Assumes nothing.
+-- The measure is the count of lines that are left.
 use mathlib.Core.List.{_++_}
 use mathlib.Core.Path.{_≡_, refl, sym, ap, _∙_}
 use Prim.Native.Nat.{_+_, _-_, _≤_, _<_}
@@ -14,11 +14,11 @@ use mir.Val.{SFits, toZ, ofZ}
 use Rattle.algebra.specs.Lists.{tabulate}
 use Rattle.algebra.proofs.Lists.{fill-tabulate}
 use Rattle.refusals.specs.Numbers.{noRefusal}
-use Rattle.columns.specs.declared.Number.{Number}
+use Rattle.columns.specs.declared.NumberAnswer.{NumberAnswer}
 use Rattle.spectrum.proofs.Signed.{sfits-natAbs}
-use Rattle.recordings.specs.Lines.{lineAt, numberAt}
+use Rattle.recordings.specs.Lines.{textLineAt, numberAt}
 use Rattle.recordings.specs.Faults.{firstOf}
-use Rattle.recordings.specs.Reading.{sampleFault, faultOfLines}
+use Rattle.recordings.specs.Reading.{sampleRefusal, textLinesRefusal}
 use Rattle.recordings.specs.Steps.{sampleOn}
 use Rattle.recordings.proofs.FirstOf.{first-next, first-found}
 use Rattle.recordings.proofs.Samples.{in-range-of-none, sample-of-none, sample-le}
@@ -27,13 +27,13 @@ use Rattle.recordings.proofs.lines.read_samples.Tie as tie
 
 abbrev Inv-loop : tie.InvT-loop
 Inv-loop block count samples₀ line₀ samples line =
-    (line ≤ count) × (length samples ≡ length samples₀) × (faultOfLines block line ≡ noRefusal) × (samples ≡ tabulate line (numberAt block) ++ drop line samples₀)
+    (line ≤ count) × (length samples ≡ length samples₀) × (textLinesRefusal block line ≡ noRefusal) × (samples ≡ tabulate line (numberAt block) ++ drop line samples₀)
 
 abbrev μ-loop : tie.MeasureT-loop
 μ-loop block count samples₀ line₀ samples line = count - line
 
 loop-holds : tie.Need-loop-holds Inv-loop μ-loop
-unfolding tabulate faultOfLines firstOf
+unfolding tabulate textLinesRefusal firstOf
 loop-holds c = (omega arith, refl, refl, refl)
 
 sample-on-line-requires : tie.Need-sample-on-line-requires Inv-loop μ-loop
@@ -43,19 +43,19 @@ same-length : tie.Need-same-length Inv-loop μ-loop
 same-length c = search needs
 
 returns : tie.Need-returns Inv-loop μ-loop
-unfolding faultOfLines sampleOn
+unfolding textLinesRefusal sampleOn
 returns c =
     let a = c .before .before .before .before .before .before .args in
     let at = c .before .before .before .before .loop in
-    let here = ap (λ (n : Number). n .refusal) (c .before .before .sample-on-line .ensures) in
-    let found = first-found (λ j. sampleFault (lineAt (a .block .now) j)) (at .line) (a .count) (at .inv .2) (λ z. c .if1 .taken (here ∙ z)) (omega arith) in
+    let here = ap (λ (n : NumberAnswer). n .refusal) (c .before .before .sample-on-line .ensures) in
+    let found = first-found (λ j. sampleRefusal (textLineAt (a .block .now) j)) (at .line) (a .count) (at .inv .2) (λ z. c .if1 .taken (here ∙ z)) (omega arith) in
     record { fault-is = here ∙ sym found; samples-are = λ e. absurd (c .if1 .taken e) }
 
 -- the line that was read has no fault
-no-fault : (c : tie.After-struct-told Inv-loop μ-loop) → sampleFault (lineAt (c .before .before .before .before .before .before .before .before .args .block .now) (c .before .before .before .before .before .before .loop .line)) ≡ noRefusal
+no-fault : (c : tie.After-struct-told Inv-loop μ-loop) → sampleRefusal (textLineAt (c .before .before .before .before .before .before .before .before .args .block .now) (c .before .before .before .before .before .before .loop .line)) ≡ noRefusal
 unfolding sampleOn
 no-fault c =
-    sym (ap (λ (n : Number). n .refusal) (c .before .before .before .before .sample-on-line .ensures)) ∙ c .before .before .if1 .left
+    sym (ap (λ (n : NumberAnswer). n .refusal) (c .before .before .before .before .sample-on-line .ensures)) ∙ c .before .before .if1 .left
 
 -- its sample, as the 64 bits that it was read to
 sample-is : (c : tie.After-struct-told Inv-loop μ-loop) → toZ w64 (ofZ w64 (c .before .before .before .before .sample-on-line .result .value)) ≡ numberAt (c .before .before .before .before .before .before .before .before .args .block .now) (c .before .before .before .before .before .before .loop .line)
@@ -63,8 +63,8 @@ unfolding numberAt
 sample-is c =
     let read = c .before .before .before .before .sample-on-line in
     toZ-ofZ {w = w64} {z = read .result .value} (record { sfits = c .struct-told .given .1 .0 .1 })
-    ∙ ap (λ (n : Number). n .value) (read .ensures)
-    ∙ sample-of-none (lineAt (c .before .before .before .before .before .before .before .before .args .block .now) (c .before .before .before .before .before .before .loop .line)) (no-fault c)
+    ∙ ap (λ (n : NumberAnswer). n .value) (read .ensures)
+    ∙ sample-of-none (textLineAt (c .before .before .before .before .before .before .before .before .args .block .now) (c .before .before .before .before .before .before .loop .line)) (no-fault c)
 
 number-fits : (c : tie.After-struct-told Inv-loop μ-loop) → SFits w32 (numberAt (c .before .before .before .before .before .before .before .before .args .block .now) (c .before .before .before .before .before .before .loop .line))
 unfolding numberAt
@@ -86,13 +86,13 @@ loop-less : tie.Need-loop-less Inv-loop μ-loop
 loop-less c = search needs
 
 loop-again : tie.Need-loop-again Inv-loop μ-loop
-unfolding faultOfLines
+unfolding textLinesRefusal
 loop-again c =
     let a = c .before .before .before .before .before .before .before .before .args in
     let at = c .before .before .before .before .before .before .loop in (
       omega arith,
       search needs,
-      first-next (λ j. sampleFault (lineAt (a .block .now) j)) (at .line) (at .inv .2) ∙ no-fault c,
+      first-next (λ j. sampleRefusal (textLineAt (a .block .now) j)) (at .line) (at .inv .2) ∙ no-fault c,
       rw (sample-is c, toZ-ofZ (number-fits c), at .inv .3)
           (fill-tabulate (at .line) (numberAt (a .block .now)) (a .samples .now) (omega arith)),
     )

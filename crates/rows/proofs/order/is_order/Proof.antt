@@ -1,4 +1,4 @@
--- `rows::order::is_order` meets its contract. Assumes nothing.
+-- `rows::order::is_order` meets its contract.
 use borrow.Author.Tests.{lt-ltb, le-ltb}
 use Rattle.rows.specs.Orders.{isOrder}
 use Rattle.rows.proofs.order.is_order.Statement.{statement}

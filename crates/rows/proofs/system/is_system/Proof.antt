@@ -1,4 +1,4 @@
--- `rows::system::is_system` meets its contract. Assumes nothing.
+-- `rows::system::is_system` meets its contract.
 use borrow.Author.Tests.{eq-eqb, ne-eqb}
 use Rattle.rows.specs.Systems.{isSystem}
 use Rattle.rows.proofs.system.is_system.Statement.{statement}

@@ -1,4 +1,4 @@
--- `verdict::class_a::verdict` meets its contract: the refusal, or the verdict of a call that is not refused. Assumes nothing.
+-- `verdict::class_a::verdict` meets its contract: the refusal, or the verdict of a call that is not refused.
 use mathlib.Core.Path.{sym, _∙_}
 use borrow.Author.Needs.{needs}
 use borrow.Author.Tests.{ne-eqb}

@@ -1,10 +1,11 @@
--- `verdict::class_a::verdict_of` meets its contract: the code holds the average, the peak and their limits, and each return follows from the tests that led to it. Assumes nothing.
+-- `verdict::class_a::verdict_of` meets its contract: the code holds the average, the peak and their limits, and each return follows from the tests that led to it.
 use mathlib.Core.Path.{_≡_, sym, _∙_}
 use mathlib.Core.Bool.{Bool, false, _&&_, _||_}
 use native.Mathlib.Omega.{arith}
 use borrow.Author.Needs.{needs}
 use Rattle.verdict.specs.Tests.{limitInUnits, peakLimitInUnits, isWithin, isOver}
-use Rattle.verdict.specs.Call.{averageOf, peakOf, verdictOf, combined}
+use Rattle.verdict.specs.Call.{verdictOf, combined}
+use Rattle.observation.specs.Average.{averageOf, peakOf}
 use Rattle.verdict.proofs.Verdicts.{Accepted, accepted}
 use Rattle.verdict.proofs.HeldParts.{average-parts, peak-parts, average-comparable, peak-comparable}
 use Rattle.verdict.proofs.class_a.verdict_of.Statement.{statement}

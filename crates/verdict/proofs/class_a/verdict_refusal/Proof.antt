@@ -1,4 +1,4 @@
--- `verdict::class_a::verdict_refusal` meets its contract: the checks are made in the order of the definition. Assumes nothing.
+-- `verdict::class_a::verdict_refusal` meets its contract: the checks are made in the order of the definition.
 use mathlib.Core.Path.{_≡_, sym, _∙_}
 use mathlib.Core.Bool.{Bool, true, false, _&&_}
 use Prim.Native.Nat.{ℕ}

@@ -1,4 +1,4 @@
--- `verdict::limit::limit_in_units` meets its contract: the parts of the limit times K and 1000, which are small. Assumes nothing.
+-- `verdict::limit::limit_in_units` meets its contract: the parts of the limit times K and 1000, which are small.
 use Prim.Native.Nat.{_≤_}
 use native.Mathlib.Nat.{mul-le-mul}
 use native.Mathlib.Omega.{arith}

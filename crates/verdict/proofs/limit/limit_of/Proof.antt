@@ -1,4 +1,4 @@
--- `verdict::limit::limit_of` meets its contract: each arm is the definition at its order, and the last that of every other order. Assumes nothing.
+-- `verdict::limit::limit_of` meets its contract: each arm is the definition at its order, and the last that of every other order.
 use mathlib.Core.Path.{_≡_}
 use mathlib.Core.Bool.{cond}
 use Prim.Native.Nat.{_%_}

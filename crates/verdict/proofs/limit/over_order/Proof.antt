@@ -1,4 +1,4 @@
--- `verdict::limit::over_order` meets its contract: an order that is not 0 is the denominator. Assumes nothing.
+-- `verdict::limit::over_order` meets its contract: an order that is not 0 is the denominator.
 use mathlib.Core.Path.{refl}
 use native.Mathlib.Omega.{arith}
 use Rattle.verdict.specs.Limit.{overOrder}

@@ -1,4 +1,4 @@
--- `verdict::limit::peak_limit_in_units` meets its contract: three times the numerator over twice the denominator. Assumes nothing.
+-- `verdict::limit::peak_limit_in_units` meets its contract: three times the numerator over twice the denominator.
 use native.Mathlib.Omega.{arith}
 use borrow.Author.Needs.{needs}
 use Rattle.algebra.specs.Fraction.{scale, divide}

@@ -1,4 +1,4 @@
--- `verdict::limit::whole_figure` meets its contract. Assumes nothing.
+-- `verdict::limit::whole_figure` meets its contract.
 use mathlib.Core.Path.{refl}
 use Rattle.algebra.specs.Fraction.{whole}
 use Rattle.verdict.proofs.limit.whole_figure.Statement.{statement}
