@@ -9,7 +9,6 @@ pub use window::out_of_range;
 ghost use mathlib.Core.Bool.{false};
 ghost use mathlib.Core.Path.{_≡_};
 ghost use Prim.Native.Nat.{_+_, _≤_};
-ghost use lib.Dec.{ltb};
 ghost use lib.ListN.{length};
 ghost use Rattle.refusals.specs.Answers.{firstFault, unlessRefused};
 ghost use Rattle.spectrum.specs.Line.{lineLimit, windowAt, linesFrom};
@@ -23,19 +22,13 @@ use refusals::fault_or;
 use sine::TURN;
 use sums::line;
 use window::any_out_of_range;
+use window::lesser;
 use window::window_at;
 
 // Lines of a spectrum.
 pub const LINE_COUNT: usize = 512;
 // Line numbers are below it.
 pub const LINE_LIMIT: usize = 1024;
-
-// So many lines from `first` on reach past the last line number.
-fn reaches_past(first: usize, count: usize) -> bool
-    ensures { λ r. ⌜ r ≡ ltb lineLimit (first + count) ⌝ }
-{
-    LINE_LIMIT < first || LINE_LIMIT - first < count
-}
 
 // Writes the window's lines from `first` on, as many as the buffer holds.
 fn fill_lines(window: &[i32], wave: &[i32; TURN], first: usize, lines: &mut [u64])
@@ -95,11 +88,7 @@ pub fn lines_from(recording: &[i32], start: usize, first: usize, lines: &mut [u6
     ensures { λ r. ⌜ r ≡ linesFromRefusal (now (recording .entry)) start first (now (lines .entry)) ⌝ }
     ensures { λ _. ⌜ now (lines .exit) ≡ linesFromExit (now (recording .entry)) start first (now (lines .entry)) ⌝ }
 {
-    answer_lines(
-        recording,
-        start,
-        reaches_past(first, lines.len()),
-        first,
-        lines,
-    )
+    // Cut, so that the sum cannot wrap.
+    let end = lesser(first, LINE_LIMIT + 1) + lines.len();
+    answer_lines(recording, start, LINE_LIMIT < end, first, lines)
 }

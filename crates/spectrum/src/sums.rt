@@ -9,7 +9,7 @@ ghost use Rattle.algebra.specs.Integers.{square};
 ghost use Rattle.algebra.specs.Rounding.{nearestℤ};
 ghost use Rattle.sine.specs.Turn.{quarterTurn};
 ghost use Rattle.sine.specs.Wave.{tableSine};
-ghost use Rattle.spectrum.specs.Line.{lineLimit, lineSum, sumScale, roundedSum, lineOf};
+ghost use Rattle.spectrum.specs.Line.{lineLimit, lineSum, sumScale, lineOf};
 ghost use Rattle.spectrum.specs.Prepared.{Prepared};
 
 // What is added to an index for the sine.
@@ -45,30 +45,13 @@ fn line_sum(window: &[i32], wave: &[i32; TURN], k: usize, phase: usize) -> i64
     sum
 }
 
-// The sum divided by 2^29, to the nearest, halves up.
-fn rounded(sum: i64) -> i64
-    requires { ⌜ natAbs sum < 2 ^ 62 ⌝ }
-    ensures { λ r. ⌜ r ≡ nearestℤ sum sumScale ⌝ }
+// The square of A or B: of the sum divided by 2^29, to the nearest, halves up.
+fn rounded_square(sum: i64) -> u64
+    requires { ⌜ natAbs sum < 2 ^ 58 ⌝ }
+    ensures { λ r. ⌜ r ≡ square (nearestℤ sum sumScale) ⌝ }
 {
-    (sum + HALF_SUM_SCALE) >> SUM_SHIFT
-}
-
-// The square of a rounded sum.
-fn squared(x: i64) -> u64
-    requires { ⌜ natAbs x ≤ 2 ^ 29 ⌝ }
-    ensures { λ r. ⌜ r ≡ square x ⌝ }
-{
-    (x * x) as u64
-}
-
-// The square of A, with the phase of the cosine, or of B, with the phase of the sine.
-fn squared_sum(window: &[i32], wave: &[i32; TURN], k: usize, phase: usize) -> u64
-    requires { ⌜ Prepared (now window) (now wave) ⌝ }
-    requires { ⌜ k < lineLimit ⌝ }
-    requires { ⌜ phase ≤ quarterTurn ⌝ }
-    ensures { λ r. ⌜ r ≡ square (roundedSum (λ i. tableSine (i + phase)) (now (window .entry)) k) ⌝ }
-{
-    squared(rounded(line_sum(window, wave, k, phase)))
+    let rounded = (sum + HALF_SUM_SCALE) >> SUM_SHIFT;
+    (rounded * rounded) as u64
 }
 
 // Line k: the sum of the squares of A and B.
@@ -77,5 +60,6 @@ pub(crate) fn line(window: &[i32], wave: &[i32; TURN], k: usize) -> u64
     requires { ⌜ k < lineLimit ⌝ }
     ensures { λ r. ⌜ r ≡ lineOf (now (window .entry)) k ⌝ }
 {
-    squared_sum(window, wave, k, COSINE_PHASE) + squared_sum(window, wave, k, SINE_PHASE)
+    rounded_square(line_sum(window, wave, k, COSINE_PHASE))
+        + rounded_square(line_sum(window, wave, k, SINE_PHASE))
 }

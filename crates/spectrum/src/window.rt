@@ -11,7 +11,7 @@ pub const WINDOW_LENGTH: usize = 2048;
 const LARGEST_SAMPLE: i64 = 131071;
 
 // The lesser of the two.
-fn lesser(a: usize, b: usize) -> usize
+pub(crate) fn lesser(a: usize, b: usize) -> usize
     ensures { λ r. ⌜ r ≡ min a b ⌝ }
 {
     if a < b { a } else { b }
