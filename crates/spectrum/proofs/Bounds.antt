@@ -11,6 +11,7 @@ use borrow.Author.Tests.{ltb-false}
 use lib.IntN.{ℤ, pos, natAbs, _*ℤ_}
 use lib.ListN.{getD, length, List·getD-eq-default}
 use Rattle.algebra.specs.Lists.{anyOf}
+use Rattle.algebra.specs.Rounding.{nearestℤ}
 use Rattle.algebra.specs.Sums.{sumTo}
 use Rattle.algebra.proofs.Integer.{natAbs-*ℤ}
 use Rattle.algebra.proofs.Lists.{anyOf-none}
@@ -36,6 +37,11 @@ shiftedSine-le phase i = tableSine-le (i + phase)
 pub square-le : (x : ℤ) → natAbs x ≤ 2 ^ 29 → square x ≤ 2 ^ 58
 unfolding square
 square-le x h = mul-le-mul h h
+
+-- a sum below 2^58 is at most 2^29 when it is rounded
+pub rounded-le : (sum : ℤ) → natAbs sum < 2 ^ 58 → natAbs (nearestℤ sum sumScale) ≤ 2 ^ 29
+rounded-le sum h =
+    le-trans (natAbs-nearestℤ-le sum sumScale (omega arith)) (nearest-le (2 ^ 29) sumScale (omega arith) (omega arith))
 
 module _ (window : List ℤ) (in-range : anyOf outOfRange window ≡ false) where
   pub sample-le : (j : ℕ) → natAbs (getD window j (pos 0)) ≤ largestSample
@@ -64,9 +70,7 @@ module _ (window : List ℤ) (in-range : anyOf outOfRange window ≡ false) wher
 
     pub roundedSum-le : (k : ℕ) → natAbs (roundedSum wave window k) ≤ 2 ^ 29
     unfolding roundedSum
-    roundedSum-le k =
-        le-trans (natAbs-nearestℤ-le (lineSum wave window k) sumScale (omega arith))
-        (nearest-le (2 ^ 29) sumScale (omega arith) (omega (arith, lineSum-le k)))
+    roundedSum-le k = rounded-le (lineSum wave window k) (lineSum-le k)
 
     squaredSum-le : (k : ℕ) → square (roundedSum wave window k) ≤ 2 ^ 58
     squaredSum-le k = square-le (roundedSum wave window k) (roundedSum-le k)

@@ -1,0 +1,33 @@
+-- `spectrum::lines_from` meets its contract. A first line that is cut to 1,025 reaches past line 1,023 just where it does uncut.
+use borrow.Author.Needs.{needs}
+use borrow.Author.Tests.{ltb-false}
+use mathlib.Core.Path.{_≡_, sym, _∙_}
+use Prim.Native.Nat.{ℕ, _+_, min}
+use native.Mathlib.Omega.{arith}
+use lib.Dec.{ltb}
+use lib.ListN.{length}
+use Rattle.algebra.proofs.Tests.{ltb-same}
+use Rattle.spectrum.specs.Line.{lineLimit}
+use Rattle.spectrum.specs.Spectrum.{linesFromRefusal, linesFromExit}
+use Rattle.spectrum.proofs.lines_from.Statement.{statement}
+use Rattle.spectrum.proofs.lines_from.Tie as tie
+
+cut-first : (first cut count : ℕ) → cut ≡ min first (lineLimit + 1) → ltb lineLimit (cut + count) ≡ ltb lineLimit (first + count)
+cut-first first cut count e =
+    ltb-same lineLimit (cut + count) lineLimit (first + count) (λ h. omega arith) (λ h. omega arith)
+
+answer-lines-requires : tie.Need-answer-lines-requires
+answer-lines-requires c κs within =
+    let e = c .before .before in
+    ltb-false lineLimit _ (sym (cut-first (e .before .args .first) (c .before .lesser .result) _ (c .before .lesser .ensures)) ∙ within)
+
+returns : tie.Need-returns
+unfolding linesFromRefusal linesFromExit
+returns c =
+    let cut = c .before .before .before .before .lesser in
+    let a = c .before .before .before .before .before .before .args in
+    let tested = cut-first (a .first) (cut .result) (length (a .lines .now)) (cut .ensures) in
+    (cc, cc)
+
+pub lines-from-spec : {M : Type 1} → statement M
+lines-from-spec = tie.close (tie.spec (λ c. search needs) (λ c κs. tt) (λ c. search needs) answer-lines-requires (λ c. search needs) returns)
