@@ -4,6 +4,7 @@ pub mod Ring
 pub mod SumTo
 pub mod Weighted
 pub mod Norm
+pub mod Tests
 pub mod Lists
 pub mod Filling
 pub mod Largest
