@@ -22,9 +22,6 @@ mag-neg (suc n) h = omega arith
 negated-fits : (n : ℕ) → n ≤ fullScale → SFits w32 (pos 0 -ℤ toZ w32 n)
 negated-fits n h = rw (negated n h) (record { sfits = mag-neg n h })
 
-cast-result : tie.Need-cast-result
-cast-result c = search needs
-
 sub-result : tie.Need-sub-result
 sub-result c = negated-fits (c .args .height) (c .pre)
 
@@ -32,4 +29,4 @@ returns : tie.Need-returns
 returns c = toZ-ofZ (negated-fits (c .args .height) (c .pre)) ∙ negated (c .args .height) (c .pre)
 
 pub negated-spec : {M : Type 1} → statement M
-negated-spec = tie.close (tie.spec cast-result sub-result returns)
+negated-spec = tie.close (tie.spec (λ c. search needs) sub-result returns)
