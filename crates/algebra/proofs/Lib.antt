@@ -1,10 +1,11 @@
 -- The theorems of the shared mathematics.
 pub mod Integer
+pub mod Signed
+pub mod Tests
 pub mod Ring
 pub mod SumTo
 pub mod Weighted
 pub mod Norm
-pub mod Tests
 pub mod Lists
 pub mod Filling
 pub mod Largest

@@ -1,9 +1,13 @@
--- Tests by their parts: both of two, each of a list, and either answer of one.
-use mathlib.Core.Path.{_≡_, refl, sym}
+-- Tests as the code computes them: by their parts, and one that follows from another.
+use mathlib.Core.Path.{_≡_, refl, sym, _∙_}
 use mathlib.Core.Logic.{_⊎_, inl, inr}
 use mathlib.Core.Bool.{Bool, true, false, true≢false, _&&_}
 use mathlib.Core.List.{List, [], _∷_}
-use Prim.Native.Nat.{ℕ, zero, suc}
+use Prim.Native.Nat.{ℕ, zero, suc, _<_}
+use native.Mathlib.Decide.{decLt}
+use native.Mathlib.Omega.{arith}
+use borrow.Author.Tests.{lt-ltb, le-ltb}
+use lib.Dec.{ltb}
 use lib.ListN.{getD}
 use Rattle.algebra.specs.Lists.{allTrue}
 
@@ -29,3 +33,13 @@ allTrue-at (test ∷ tests) e (suc i) = allTrue-at tests (and-right test (allTru
 tests-worked : (allTrue [] ≡ true) × (allTrue (true ∷ true ∷ true ∷ []) ≡ true) × (allTrue (false ∷ true ∷ true ∷ []) ≡ false)
     × (allTrue (true ∷ false ∷ true ∷ []) ≡ false) × (allTrue (true ∷ true ∷ false ∷ []) ≡ false)
 tests-worked = (refl, refl, refl, refl, refl)
+
+-- two tests that follow from each other are the same
+pub ltb-same : (a b c d : ℕ) → (a < b → c < d) → (c < d → a < b) → ltb a b ≡ ltb c d
+ltb-same a b c d forth back = by-test (decLt a b)
+  where
+    by-test : Dec (a < b) → ltb a b ≡ ltb c d
+    by-test (yes h) = lt-ltb a b h ∙ sym (lt-ltb c d (forth h))
+    by-test (no f) =
+        let not-below : c < d → ⊥ = λ l. f (back l) in
+        le-ltb a b (omega arith) ∙ sym (le-ltb c d (omega arith))

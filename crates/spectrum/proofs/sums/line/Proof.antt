@@ -1,4 +1,4 @@
--- `spectrum::line` meets its contract. The phase of a quarter turn gives the cosine by its definition, and the phase 0 the sine.
+-- `spectrum::sums::line` meets its contract. The phase of a quarter turn gives the cosine by its definition, and the phase 0 the sine.
 use borrow.Author.Needs.{needs}
 use mathlib.Core.Path.{_≡_, ap, ap₂, _∙_, fun-ext}
 use Prim.Native.Nat.{_+_}
@@ -8,8 +8,8 @@ use Rattle.sine.specs.Wave.{tableSine, tableCosine}
 use Rattle.spectrum.specs.Line.{roundedSum, lineOf}
 use Rattle.algebra.specs.Integers.{square}
 use Rattle.spectrum.proofs.Bounds.{line-le}
-use Rattle.spectrum.proofs.line.Statement.{statement}
-use Rattle.spectrum.proofs.line.Tie as tie
+use Rattle.spectrum.proofs.sums.line.Statement.{statement}
+use Rattle.spectrum.proofs.sums.line.Tie as tie
 
 squared-sum-requires : tie.Need-squared-sum-requires
 squared-sum-requires c κs = search needs

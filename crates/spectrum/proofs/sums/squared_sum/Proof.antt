@@ -1,4 +1,4 @@
--- `spectrum::squared_sum` meets its contract. The sum of a window in range is small enough to be rounded, and the rounded sum small enough to be squared.
+-- `spectrum::sums::squared_sum` meets its contract. The sum of a window in range is small enough to be rounded, and the rounded sum small enough to be squared.
 use mathlib.Core.Path.{_≡_, ap, _∙_}
 use native.Mathlib.Nat.{lt-of-lt-of-le}
 use native.Mathlib.Omega.{arith}
@@ -9,8 +9,8 @@ use Rattle.algebra.specs.Rounding.{nearestℤ}
 use Rattle.spectrum.specs.Line.{lineSum, sumScale, roundedSum}
 use Rattle.algebra.specs.Integers.{square}
 use Rattle.spectrum.proofs.Bounds.{shiftedSine, shiftedSine-le, lineSum-le, roundedSum-le}
-use Rattle.spectrum.proofs.squared_sum.Statement.{statement}
-use Rattle.spectrum.proofs.squared_sum.Tie as tie
+use Rattle.spectrum.proofs.sums.squared_sum.Statement.{statement}
+use Rattle.spectrum.proofs.sums.squared_sum.Tie as tie
 
 line-sum-requires : tie.Need-line-sum-requires
 line-sum-requires c κs = c .pre

@@ -1,4 +1,4 @@
--- `spectrum::any_out_of_range` meets its contract. The loop's invariant: the test over what is left of the window is the test over the whole.
+-- `spectrum::window::any_out_of_range` meets its contract. The loop's invariant: the test over what is left of the window is the test over the whole.
 -- The measure is what is left.
 use mathlib.Core.Path.{_≡_, refl, sym, ap, _∙_}
 use Prim.Native.Nat.{_-_, _≤_}
@@ -12,9 +12,9 @@ use mir.Facts.{sfits-widen}
 use Rattle.algebra.specs.Lists.{anyOf}
 use Rattle.algebra.proofs.Lists.{anyOf-drop, anyOf-here, anyOf-end}
 use Rattle.spectrum.specs.Spectrum.{outOfRange}
-use Rattle.spectrum.proofs.Signed.{widened}
-use Rattle.spectrum.proofs.any_out_of_range.Statement.{statement}
-use Rattle.spectrum.proofs.any_out_of_range.Tie as tie
+use Rattle.algebra.proofs.Signed.{widened}
+use Rattle.spectrum.proofs.window.any_out_of_range.Statement.{statement}
+use Rattle.spectrum.proofs.window.any_out_of_range.Tie as tie
 
 abbrev Inv-loop : tie.InvT-loop
 Inv-loop window j₀ j =

@@ -1,4 +1,4 @@
--- `spectrum::out_of_range` meets its contract. The two comparisons are one test of the absolute value.
+-- `spectrum::window::out_of_range` meets its contract. The two comparisons are one test of the absolute value.
 use borrow.Author.Needs.{needs}
 use mathlib.Core.Bool.{true, false, true≢false}
 use mathlib.Core.Path.{_≡_, refl, sym, _∙_}
@@ -10,8 +10,8 @@ use lib.Signed.{ltZ}
 use mir.Syntax.{w64}
 use mir.ValLaws.{toZ-ofZ}
 use Rattle.spectrum.specs.Spectrum.{largestSample, outOfRange}
-use Rattle.spectrum.proofs.out_of_range.Statement.{statement}
-use Rattle.spectrum.proofs.out_of_range.Tie as tie
+use Rattle.spectrum.proofs.window.out_of_range.Statement.{statement}
+use Rattle.spectrum.proofs.window.out_of_range.Tie as tie
 
 below-the-range : (z : ℤ) → ltZ z (negsuc 131070) ≡ true → ltZ z (negsuc 131070) ≡ outOfRange z
 unfolding outOfRange

@@ -1,4 +1,4 @@
--- `spectrum::accumulate` meets its contract. A product of two numbers of 32 bits is at most 2^62, so the sum fits 64 bits.
+-- `spectrum::sums::accumulate` meets its contract. A product of two numbers of 32 bits is at most 2^62, so the sum fits 64 bits.
 use mathlib.Core.Path.{_≡_, _∙_}
 use Prim.Native.Nat.{_^_, _<_, _≤_}
 use native.Mathlib.Nat.{mul-le-mul}
@@ -9,9 +9,9 @@ use mir.Val.{SFits, toZ, ofZ}
 use mir.ValLaws.{toZ-ofZ}
 use mir.Facts.{sfits-widen}
 use Rattle.algebra.proofs.Integer.{natAbs-*ℤ, natAbs-+ℤ-le}
-use Rattle.spectrum.proofs.Signed.{sfits-natAbs, natAbs-sfits, widened}
-use Rattle.spectrum.proofs.accumulate.Statement.{statement}
-use Rattle.spectrum.proofs.accumulate.Tie as tie
+use Rattle.algebra.proofs.Signed.{sfits-natAbs, natAbs-sfits, widened}
+use Rattle.spectrum.proofs.sums.accumulate.Statement.{statement}
+use Rattle.spectrum.proofs.sums.accumulate.Tie as tie
 
 product-le : (a b : ℤ) → SFits w32 a → SFits w32 b → natAbs (a *ℤ b) ≤ 2 ^ 62
 product-le a b f g = rw natAbs-*ℤ (mul-le-mul (natAbs-sfits w32 a f) (natAbs-sfits w32 b g))

@@ -1,4 +1,4 @@
--- `spectrum::rounded` meets its contract. Half of 2^29 is added before the shift, which rounds down.
+-- `spectrum::sums::rounded` meets its contract. Half of 2^29 is added before the shift, which rounds down.
 use mathlib.Core.Path.{_≡_, _∙_}
 use Prim.Native.Nat.{ℕ, _^_, _<_}
 use native.Mathlib.Omega.{arith}
@@ -10,9 +10,9 @@ use mir.Val.{SFits, toZ, ofZ}
 use mir.ValLaws.{toZ-ofZ, sfits-le}
 use Rattle.algebra.proofs.Integer.{natAbs-+ℤ-le}
 use Rattle.algebra.proofs.Rounding.{shift-nearestℤ}
-use Rattle.spectrum.proofs.Signed.{sfits-natAbs}
-use Rattle.spectrum.proofs.rounded.Statement.{statement}
-use Rattle.spectrum.proofs.rounded.Tie as tie
+use Rattle.algebra.proofs.Signed.{sfits-natAbs}
+use Rattle.spectrum.proofs.sums.rounded.Statement.{statement}
+use Rattle.spectrum.proofs.sums.rounded.Tie as tie
 
 addition-fits : (s : ℤ) (n : ℕ) → natAbs s < 2 ^ 62 → n < 2 ^ 62 → SFits w64 (s +ℤ pos n)
 addition-fits s n h l = sfits-natAbs w64 (s +ℤ pos n) (omega (arith, natAbs-+ℤ-le s (pos n)))

@@ -1,4 +1,4 @@
--- `spectrum::squared` meets its contract. The square is not below 0, and below 2^63.
+-- `spectrum::sums::squared` meets its contract. The square is not below 0, and below 2^63.
 use mathlib.Core.Path.{_≡_, ap, _∙_}
 use Prim.Native.Nat.{_^_, _≤_}
 use native.Mathlib.Omega.{arith}
@@ -9,9 +9,9 @@ use mir.ValLaws.{toZ-ofZ}
 use Rattle.algebra.proofs.Integer.{square-natAbs}
 use Rattle.algebra.specs.Integers.{square}
 use Rattle.spectrum.proofs.Bounds.{square-le}
-use Rattle.spectrum.proofs.Signed.{sfits-natAbs}
-use Rattle.spectrum.proofs.squared.Statement.{statement}
-use Rattle.spectrum.proofs.squared.Tie as tie
+use Rattle.algebra.proofs.Signed.{sfits-natAbs}
+use Rattle.spectrum.proofs.sums.squared.Statement.{statement}
+use Rattle.spectrum.proofs.sums.squared.Tie as tie
 
 square-fits : (x : ℤ) → natAbs x ≤ 2 ^ 29 → SFits w64 (pos (square x))
 square-fits x h = sfits-natAbs w64 (pos (square x)) (omega (arith, square-le x h))

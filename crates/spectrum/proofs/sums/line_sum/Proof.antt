@@ -1,4 +1,4 @@
--- `spectrum::line_sum` meets its contract. The loop's invariant: the sum is that of the first j summands.
+-- `spectrum::sums::line_sum` meets its contract. The loop's invariant: the sum is that of the first j summands.
 -- The measure is what is left of the window.
 use mathlib.Core.List.{List}
 use mathlib.Core.Path.{_≡_, refl, _∙_}
@@ -17,8 +17,8 @@ use Rattle.sine.specs.Wave.{waveList}
 use Rattle.sine.proofs.Wave.{waveList-at-mod}
 use Rattle.spectrum.specs.Line.{windowLength, lineSum}
 use Rattle.spectrum.proofs.Bounds.{summand, shiftedSine, shiftedSine-le, partialSum-le}
-use Rattle.spectrum.proofs.line_sum.Statement.{statement}
-use Rattle.spectrum.proofs.line_sum.Tie as tie
+use Rattle.spectrum.proofs.sums.line_sum.Statement.{statement}
+use Rattle.spectrum.proofs.sums.line_sum.Tie as tie
 
 -- one more summand, of the sample and the wave that are read back from their bits
 sum-step : (window wave : List ℤ) (k phase j at : ℕ) (sum : ℤ) → wave ≡ waveList → at ≡ (j * k + phase) % turn → sum ≡ sumTo j (summand (shiftedSine phase) window k) → SFits w32 (getD window j (pos 0)) → SFits w32 (getD wave at (pos 0)) → sum +ℤ toZ w32 (ofZ w32 (getD window j (pos 0))) *ℤ toZ w32 (ofZ w32 (getD wave at (pos 0))) ≡ sumTo (j + 1) (summand (shiftedSine phase) window k)
@@ -31,7 +31,7 @@ sum-whole : (window : List ℤ) (k phase j : ℕ) → j ≡ windowLength → sum
 unfolding lineSum
 sum-whole window k phase j e = rw e
 
-index-le : (j k : ℕ) → j < 2048 → k < 512 → j * k ≤ 2048 * 512
+index-le : (j k : ℕ) → j < 2048 → k < 1024 → j * k ≤ 2048 * 1024
 index-le j k h l = mul-le-mul (le-of-lt h) (le-of-lt l)
 
 abbrev Inv-loop : tie.InvT-loop
