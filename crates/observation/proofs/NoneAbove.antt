@@ -13,7 +13,7 @@ use Rattle.observation.specs.Soundness.{noneAbove}
 
 -- no number at any place is above the limit; past the end the places hold 0
 pub getD-le-of-none-above : (limit : ℕ) (values : List ℕ) (i : ℕ) → noneAbove limit values ≡ true → getD values i 0 ≤ limit
-unfolding anyOf
+unfolding noneAbove anyOf
 getD-le-of-none-above limit [] i e = omega arith
 getD-le-of-none-above limit (x ∷ xs) zero e =
     ltb-false limit x (anyOf-none (ltb limit) (x ∷ xs) 0 0 (not-true _ e) (omega arith))
@@ -24,6 +24,7 @@ getD-le-of-none-above limit (x ∷ xs) (suc i) e = getD-le-of-none-above limit x
     rest false b p = p
 
 pub none-above-of-getD-le : (limit : ℕ) (values : List ℕ) → ((i : ℕ) → i < length values → getD values i 0 ≤ limit) → noneAbove limit values ≡ true
+unfolding noneAbove
 none-above-of-getD-le limit values h =
     ap not (anyOf-false (ltb limit) values 0 (λ i inside. le-ltb limit (getD values i 0) (h i inside)))
 

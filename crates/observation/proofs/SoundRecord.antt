@@ -20,7 +20,7 @@ use Rattle.rows.specs.declared.Row.{Row}
 use Rattle.observation.specs.declared.Observation.{Observation}
 use Rattle.observation.specs.Book.{bookStep, smoothedNext}
 use Rattle.observation.specs.Smoothing.{reported}
-use Rattle.observation.specs.Soundness.{mostWindows, allZero, soundTests, isSound}
+use Rattle.observation.specs.Soundness.{mostWindows, noneAbove, allZero, soundTests, isSound}
 use Rattle.rows.specs.Rows.{largestValue, ValuesFit}
 use Rattle.observation.specs.Calls.{emptyRecord, freshRefusal, freshAnswer, bookAt, nextBook, withRow, rowChecks, addRowRefusal, addRowAnswer}
 use Rattle.observation.specs.BookCalls.{accepts, EachAccepted, AcceptedFit}
@@ -47,7 +47,7 @@ sound-parts o e =
     }
 
 pub empty-record-sound : (system : ℕ) → isSystem system ≡ true → isSound (emptyRecord system) ≡ true
-unfolding isSound allZero anyOf emptyRecord
+unfolding isSound noneAbove allZero anyOf emptyRecord
 empty-record-sound system e = rw e
 
 pub fresh-of-known : (system : ℕ) → isSystem system ≡ true → freshAnswer system .observation ≡ emptyRecord system
@@ -62,6 +62,7 @@ pub record AcceptedRow (system count : ℕ) (row : Row) : Type 0 where
 
 pub accepted-row :
     (system count : ℕ) (row : Row) → firstFault (rowChecks system count row) ≡ noRefusal → AcceptedRow system count row
+unfolding rowChecks
 accepted-row system count row e =
     let passed = no-faults (rowChecks system count row) refl e in
     record {
@@ -116,7 +117,7 @@ addRowAnswer-sound o row sound = rw sound
 pub addRowRefusal-own :
     (o : Observation) (row : Row) → isSound o ≡ true → row .system ≡ o .system →
     addRowRefusal o row ≡ cond (leb mostWindows (o .windows)) recordFull noRefusal
-unfolding addRowRefusal
+unfolding addRowRefusal rowChecks
 addRowRefusal-own o row sound own = rw (sound, own, sound-parts o sound .system-known, eq-eqb (o .system) (o .system) refl)
 
 -- the record that an accepted call returns, and the one that a refused call returns

@@ -11,8 +11,8 @@ use Rattle.observation.specs.declared.Observation.{Observation}
 use Rattle.observation.specs.declared.RecordAnswer.{RecordAnswer}
 use Rattle.observation.specs.Book.{smoothedNext, bookStep}
 use Rattle.observation.specs.Smoothing.{smoothedValue}
-use Rattle.observation.specs.Soundness.{allZero, isSound}
-use Rattle.observation.specs.Calls.{emptyRecord, freshRefusal, freshAnswer, bookAt, nextBook, withRow, addRowRefusal, addRowAnswer}
+use Rattle.observation.specs.Soundness.{noneAbove, allZero, isSound}
+use Rattle.observation.specs.Calls.{emptyRecord, freshRefusal, freshAnswer, bookAt, nextBook, withRow, rowChecks, addRowRefusal, addRowAnswer}
 
 -- ---- soundness
 
@@ -46,7 +46,7 @@ records =
     []
 
 records-worked : map (λ c. isSound (c .0)) records ≡ map (λ c. c .1) records
-unfolding isSound isSystem allZero anyOf
+unfolding isSound isSystem noneAbove allZero anyOf
 records-worked = refl
 
 -- ---- fresh record
@@ -105,5 +105,5 @@ calls =
 
 calls-worked : map (λ c. addRowAnswer (c .observation) (record { system = c .system; values = only 8944 })) calls
     ≡ map (λ c. c .answered) calls
-unfolding addRowAnswer addRowRefusal isSound isSystem allZero anyOf withRow tabulate nextBook bookAt bookStep smoothedNext smoothedValue nearest
+unfolding addRowAnswer addRowRefusal rowChecks isSound isSystem noneAbove allZero anyOf withRow tabulate nextBook bookAt bookStep smoothedNext smoothedValue nearest
 calls-worked = refl

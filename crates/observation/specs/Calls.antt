@@ -71,7 +71,7 @@ withRow o row =
     }
 
 -- what a book with this system and count turns away: 1 the row's system not 10 or 12; 8 it differs from the record's; 9 45,000 windows held
-abbrev pub rowChecks : ℕ → ℕ → Row → List (Bool × ℕ)
+unfoldable pub rowChecks : ℕ → ℕ → Row → List (Bool × ℕ)
 rowChecks system count row =
     systemCheck (row .system) ∷
     (not (eqb (row .system) system), otherSystem) ∷

@@ -13,7 +13,7 @@ abbrev pub mostWindows : ℕ
 mostWindows = 45000
 
 -- no value is above the limit
-abbrev pub noneAbove : ℕ → List ℕ → Bool
+unfoldable pub noneAbove : ℕ → List ℕ → Bool
 noneAbove limit values = not (anyOf (ltb limit) values)
 
 -- all of the record's 120 numbers are 0

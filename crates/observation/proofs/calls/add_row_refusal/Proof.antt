@@ -1,11 +1,11 @@
 -- `observation::calls::add_row_refusal` meets its contract: the checks are nested as the definition's list is.
 use borrow.Author.Needs.{needs}
-use Rattle.observation.specs.Calls.{addRowRefusal}
+use Rattle.observation.specs.Calls.{rowChecks, addRowRefusal}
 use Rattle.observation.proofs.calls.add_row_refusal.Statement.{statement}
 use Rattle.observation.proofs.calls.add_row_refusal.Tie as tie
 
 returns : tie.Need-returns
-unfolding addRowRefusal
+unfolding addRowRefusal rowChecks
 returns c = cc
 
 pub add-row-refusal-spec : {M : Type 1} → statement M
