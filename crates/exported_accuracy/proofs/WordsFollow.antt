@@ -19,8 +19,8 @@ use Rattle.rows.specs.Orders.{orderCount}
 use Rattle.rows.specs.declared.Row.{Row}
 use Rattle.observation.specs.declared.Observation.{Observation}
 use Rattle.observation.specs.Calls.{emptyRecord, freshRefusal, freshAnswer, withRow, addRowRefusal, addRowAnswer}
-use Rattle.observation.specs.CallList.{recordAfter}
-use Rattle.observation.proofs.CallList.{record-after-snoc}
+use Rattle.observation.specs.RecordAfter.{recordAfter}
+use Rattle.observation.proofs.RecordAfter.{record-after-snoc}
 use Rattle.observation.proofs.SoundRecord.{fresh-of-known}
 use Rattle.kifsang.specs.Refusals.{wrongWordCount, ownFirst}
 use Rattle.kifsang.specs.Words.{recordWords, recordOf, wordsOf}
