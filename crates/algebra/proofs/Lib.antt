@@ -10,3 +10,4 @@ pub mod Largest
 pub mod Computed
 pub mod Rounding
 pub mod Fraction
+pub mod Signed64

@@ -11,23 +11,11 @@ use Rattle.recordings.proofs.FirstLine.{begin-refused, begin-taken}
 use Rattle.recordings.proofs.blocks.begin.Statement.{statement}
 use Rattle.recordings.proofs.blocks.begin.Tie as tie
 
-number-on-line-requires : tie.Need-number-on-line-requires
-number-on-line-requires c κs = search needs
-
-system-word-requires : tie.Need-system-word-requires
-system-word-requires c κs = search needs
-
-fresh-record-requires : tie.Need-fresh-record-requires
-fresh-record-requires c κs = search needs
-
 -- the fresh record is that of the number that was read
 fresh-is : (c : tie.After-fresh-record) → c .fresh-record .result ≡ freshAnswer (systemWord (c .before .before .before .number-on-line .result .value))
 fresh-is c =
     let value = toZ-ofZ {w = w64} {z = c .before .before .before .number-on-line .result .value} (record { sfits = c .before .before .struct-told .given .1 .0 .1 }) in
     c .fresh-record .ensures ∙ ap freshAnswer (c .before .system-word .ensures ∙ ap systemWord value)
-
-reading-of-none-requires : tie.Need-reading-of-none-requires
-reading-of-none-requires c κs = search needs
 
 returns : tie.Need-returns
 returns c =
@@ -37,9 +25,6 @@ returns c =
     c .reading-of-none .ensures
     ∙ rw (fresh-is (c .before .before .before .before), read .ensures)
     (begin-refused line o refl (λ z. c .before .if1 .taken (ap (λ (n : NumberAnswer). n .refusal) (read .ensures) ∙ z)))
-
-reading-of-none-requires-2 : tie.Need-reading-of-none-requires-2
-reading-of-none-requires-2 c κs = search needs
 
 returns-2 : tie.Need-returns-2
 returns-2 c =
@@ -54,10 +39,10 @@ pub begin-spec : {M : Type 1} → statement M
 begin-spec =
     tie.close
     (tie.spec
-    number-on-line-requires
-    system-word-requires
-    fresh-record-requires
-    reading-of-none-requires
+    (λ c κs. search needs)
+    (λ c κs. search needs)
+    (λ c κs. search needs)
+    (λ c κs. search needs)
     returns
-    reading-of-none-requires-2
+    (λ c κs. search needs)
     returns-2)

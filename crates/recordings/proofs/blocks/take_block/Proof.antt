@@ -24,12 +24,6 @@ returns-2 c =
     let a = c .before .before .before .before .args in
     sym (block-of-none (a .reading) (a .block .now) (c .before .if1 .left) (c .if2 .taken))
 
-block-lines-requires : tie.Need-block-lines-requires
-block-lines-requires c κs = search needs
-
-slice-aggregate-read-samples : tie.Need-slice-aggregate-read-samples
-slice-aggregate-read-samples c = search needs
-
 read-samples-requires : tie.Need-read-samples-requires
 read-samples-requires c κs =
     rw (c .before .block-lines .ensures) (block-lines-fit (c .before .before .before .before .before .before .args .block .now))
@@ -38,9 +32,6 @@ read-samples-requires c κs =
 fault-is : (c : tie.After-read-samples) → c .read-samples .result ≡ textLinesRefusal (c .before .before .before .before .before .before .before .args .block .now) (blockLines (c .before .before .before .before .before .before .before .args .block .now))
 fault-is c =
     c .read-samples .ensures .fault-is ∙ ap (textLinesRefusal (c .before .before .before .before .before .before .before .args .block .now)) (c .before .before .block-lines .ensures)
-
-refused-with-requires : tie.Need-refused-with-requires
-refused-with-requires c κs = search needs
 
 returns-3 : tie.Need-returns-3
 returns-3 c =
@@ -51,9 +42,6 @@ returns-3 c =
     c .refused-with .ensures
     ∙ ap (λ (f : ℕ). refusedWith f (a .reading)) fault
     ∙ sym (block-of-fault (a .reading) (a .block .now) (branch .before .if1 .left) (branch .if2 .left) (λ z. c .before .if3 .taken (fault ∙ z)))
-
-refused-with-requires-2 : tie.Need-refused-with-requires-2
-refused-with-requires-2 c κs = search needs
 
 returns-4 : tie.Need-returns-4
 returns-4 c =
@@ -75,9 +63,6 @@ samples-are c =
 
 no-fault : (c : tie.Else4) → textLinesRefusal (c .before .before .before .before .before .before .before .before .before .before .args .block .now) (blockLines (c .before .before .before .before .before .before .before .before .before .before .args .block .now)) ≡ noRefusal
 no-fault c = sym (fault-is (c .before .before .before)) ∙ c .before .if3 .left
-
-slice-aggregate-take-window : tie.Need-slice-aggregate-take-window
-slice-aggregate-take-window c = search needs
 
 take-window-requires : tie.Need-take-window-requires
 take-window-requires c κs =
@@ -101,13 +86,13 @@ take-block-spec =
     (tie.spec
     returns
     returns-2
-    block-lines-requires
-    slice-aggregate-read-samples
+    (λ c κs. search needs)
+    (λ c. search needs)
     read-samples-requires
-    refused-with-requires
+    (λ c κs. search needs)
     returns-3
-    refused-with-requires-2
+    (λ c κs. search needs)
     returns-4
-    slice-aggregate-take-window
+    (λ c. search needs)
     take-window-requires
     returns-5)

@@ -8,27 +8,6 @@ use Rattle.recordings.proofs.WindowLines.{lines-of-window}
 use Rattle.recordings.proofs.blocks.take_window.Statement.{statement}
 use Rattle.recordings.proofs.blocks.take_window.Tie as tie
 
-slice-aggregate-spectrum : tie.Need-slice-aggregate-spectrum
-slice-aggregate-spectrum c = search needs
-
-spectrum-requires : tie.Need-spectrum-requires
-spectrum-requires c κs = search needs
-
-slice-aggregate-group-values : tie.Need-slice-aggregate-group-values
-slice-aggregate-group-values c = search needs
-
-group-values-requires : tie.Need-group-values-requires
-group-values-requires c κs = search needs
-
-slice-aggregate-group-values-2 : tie.Need-slice-aggregate-group-values-2
-slice-aggregate-group-values-2 c = search needs
-
-group-values-requires-2 : tie.Need-group-values-requires-2
-group-values-requires-2 c κs = search needs
-
-add-row-requires : tie.Need-add-row-requires
-add-row-requires c κs = search needs
-
 returns : tie.Need-returns
 unfolding windowTaken rowOf groupValuesAnswer
 returns c =
@@ -45,11 +24,11 @@ pub take-window-spec : {M : Type 1} → statement M
 take-window-spec =
     tie.close
     (tie.spec
-    slice-aggregate-spectrum
-    spectrum-requires
-    slice-aggregate-group-values
-    group-values-requires
-    slice-aggregate-group-values-2
-    group-values-requires-2
-    add-row-requires
+    (λ c. search needs)
+    (λ c κs. search needs)
+    (λ c. search needs)
+    (λ c κs. search needs)
+    (λ c. search needs)
+    (λ c κs. search needs)
+    (λ c κs. search needs)
     returns)

@@ -15,15 +15,9 @@ returns c =
     let a = c .before .before .args in
     written-not (a .reading) (a .output .now) (c .if1 .taken)
 
-finish-fault-requires : tie.Need-finish-fault-requires
-finish-fault-requires c κs = search needs
-
 put-listing-requires : tie.Need-put-listing-requires
 put-listing-requires c κs =
     sound-of-finish (c .before .before .before .before .before .args .reading) (sym (c .before .before .finish-fault .ensures) ∙ c .before .if2 .taken)
-
-same-length : tie.Need-same-length
-same-length c = search needs
 
 returns-2 : tie.Need-returns-2
 returns-2 c =
@@ -32,17 +26,8 @@ returns-2 c =
     let called = c .before .before .put-listing in
     (called .ensures .0 ∙ answer-listing (a .reading) (a .output .now) none, called .ensures .1 ∙ written-listing (a .reading) (a .output .now) none)
 
-slice-relend-prefix-fill-refusal-line : tie.Need-slice-relend-prefix-fill-refusal-line
-slice-relend-prefix-fill-refusal-line c = search needs
-
 slice-aggregate-fill-refusal-line : tie.Need-slice-aggregate-fill-refusal-line
 slice-aggregate-fill-refusal-line c = sym (length-take-le refusalLineLength (c .before .before .before .before .before .args .output .now) (omega arith))
-
-fill-refusal-line-requires : tie.Need-fill-refusal-line-requires
-fill-refusal-line-requires c κs = search needs
-
-same-length-2 : tie.Need-same-length-2
-same-length-2 c = search needs
 
 returns-3 : tie.Need-returns-3
 returns-3 c =
@@ -60,12 +45,12 @@ finish-spec =
     tie.close
     (tie.spec
     returns
-    finish-fault-requires
+    (λ c κs. search needs)
     put-listing-requires
-    same-length
+    (λ c. search needs)
     returns-2
-    slice-relend-prefix-fill-refusal-line
+    (λ c. search needs)
     slice-aggregate-fill-refusal-line
-    fill-refusal-line-requires
-    same-length-2
+    (λ c κs. search needs)
+    (λ c. search needs)
     returns-3)

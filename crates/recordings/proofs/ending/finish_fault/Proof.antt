@@ -6,9 +6,6 @@ use Rattle.recordings.proofs.Output.{finish-of-wide, finish-of-refused,
 use Rattle.recordings.proofs.ending.finish_fault.Statement.{statement}
 use Rattle.recordings.proofs.ending.finish_fault.Tie as tie
 
-is-sound-requires : tie.Need-is-sound-requires
-is-sound-requires c κs = search needs
-
 returns : tie.Need-returns
 returns c = sym (finish-of-wide _ (c .if1 .taken))
 
@@ -28,4 +25,4 @@ returns-5 c =
 
 pub finish-fault-spec : {M : Type 1} → statement M
 finish-fault-spec =
-    tie.close (tie.spec is-sound-requires returns returns-2 returns-3 returns-4 returns-5)
+    tie.close (tie.spec (λ c κs. search needs) returns returns-2 returns-3 returns-4 returns-5)

@@ -36,12 +36,6 @@ loop-holds : tie.Need-loop-holds Inv-loop μ-loop
 unfolding tabulate textLinesRefusal firstOf
 loop-holds c = (omega arith, refl, refl, refl)
 
-sample-on-line-requires : tie.Need-sample-on-line-requires Inv-loop μ-loop
-sample-on-line-requires c κs = search needs
-
-same-length : tie.Need-same-length Inv-loop μ-loop
-same-length c = search needs
-
 returns : tie.Need-returns Inv-loop μ-loop
 unfolding textLinesRefusal sampleOn
 returns c =
@@ -73,18 +67,6 @@ number-fits c = sfits-natAbs w32 _ (lt-of-le-of-lt (sample-le _ (in-range-of-non
 cast-samples : tie.Need-cast-samples Inv-loop μ-loop
 cast-samples c = rw (sample-is c) (number-fits c)
 
-mul-t8 : tie.Need-mul-t8 Inv-loop μ-loop
-mul-t8 c = search needs
-
-slice-set-from-samples : tie.Need-slice-set-from-samples Inv-loop μ-loop
-slice-set-from-samples c = search needs
-
-add-line : tie.Need-add-line Inv-loop μ-loop
-add-line c = search needs
-
-loop-less : tie.Need-loop-less Inv-loop μ-loop
-loop-less c = search needs
-
 loop-again : tie.Need-loop-again Inv-loop μ-loop
 unfolding textLinesRefusal
 loop-again c =
@@ -96,9 +78,6 @@ loop-again c =
       rw (sample-is c, toZ-ofZ (number-fits c), at .inv .3)
           (fill-tabulate (at .line) (numberAt (a .block .now)) (a .samples .now) (omega arith)),
     )
-
-same-length-2 : tie.Need-same-length-2 Inv-loop μ-loop
-same-length-2 c = search needs
 
 returns-2 : tie.Need-returns-2 Inv-loop μ-loop
 returns-2 c =
@@ -113,14 +92,14 @@ read-samples-spec =
     Inv-loop
     μ-loop
     loop-holds
-    sample-on-line-requires
-    same-length
+    (λ c κs. search needs)
+    (λ c. search needs)
     returns
     cast-samples
-    mul-t8
-    slice-set-from-samples
-    add-line
-    loop-less
+    (λ c. search needs)
+    (λ c. search needs)
+    (λ c. search needs)
+    (λ c. search needs)
     loop-again
-    same-length-2
+    (λ c. search needs)
     returns-2)

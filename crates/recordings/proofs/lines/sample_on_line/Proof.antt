@@ -13,12 +13,6 @@ use Rattle.recordings.proofs.Samples.{sample-out, sample-in}
 use Rattle.recordings.proofs.lines.sample_on_line.Statement.{statement}
 use Rattle.recordings.proofs.lines.sample_on_line.Tie as tie
 
-number-on-line-requires : tie.Need-number-on-line-requires
-number-on-line-requires c κs = search needs
-
-out-of-range-requires : tie.Need-out-of-range-requires
-out-of-range-requires c κs = search needs
-
 line-of : (c : tie.Start) → List ℕ
 line-of c = textLineAt (c .args .text .now) (c .args .line)
 
@@ -44,4 +38,4 @@ returns-2 c =
 
 pub sample-on-line-spec : {M : Type 1} → statement M
 sample-on-line-spec =
-    tie.close (tie.spec number-on-line-requires out-of-range-requires returns returns-2)
+    tie.close (tie.spec (λ c κs. search needs) (λ c κs. search needs) returns returns-2)
