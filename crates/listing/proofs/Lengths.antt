@@ -18,7 +18,8 @@ pub header-length : length header ≡ textLineLength
 unfolding header bytesOf rightJustified
 header-length = refl
 
-fits-of-lt : (w n : ℕ) → 0 < w → n < 10 ^ w → fitsColumn w (pos n) ≡ true
+-- a number fits a column of as many digits
+pub fits-of-lt : (w n : ℕ) → 0 < w → n < 10 ^ w → fitsColumn w (pos n) ≡ true
 unfolding fitsColumn numberText
 fits-of-lt zero n some h = absurd (omega arith)
 fits-of-lt (suc w) n some h = le-leb _ _ (length-le w n h)

@@ -3,7 +3,7 @@ use mathlib.Core.Path.{_≡_, refl}
 use borrow.Author.Needs.{needs}
 use native.Mathlib.Omega.{arith}
 use lib.ListN.{length}
-use Rattle.recordings.specs.Lines.{textLineBytes}
+use Rattle.recordings.specs.TextLines.{textLineBytes}
 use Rattle.harmlist.proofs.Blocks.{bytes-read}
 use Rattle.harmlist.proofs.read_line.Statement.{statement}
 use Rattle.harmlist.proofs.read_line.Tie as tie

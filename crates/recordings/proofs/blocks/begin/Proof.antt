@@ -5,9 +5,9 @@ use mir.Facts.{toZ-ofZ}
 use mir.Syntax.{w64}
 use Rattle.columns.specs.declared.NumberAnswer.{NumberAnswer}
 use Rattle.observation.specs.Calls.{freshAnswer}
-use Rattle.recordings.specs.Lines.{textLineAt, textLineNumber}
+use Rattle.recordings.specs.TextLines.{textLineAt, textLineNumber}
 use Rattle.recordings.specs.Steps.{systemWord}
-use Rattle.recordings.proofs.FirstLine.{begin-refused, begin-taken}
+use Rattle.recordings.proofs.FirstLine.{beginOf-refused, beginOf-accepted}
 use Rattle.recordings.proofs.blocks.begin.Statement.{statement}
 use Rattle.recordings.proofs.blocks.begin.Tie as tie
 
@@ -24,7 +24,7 @@ returns c =
     let o = textLineNumber (textLineAt line 0) in
     c .reading-of-none .ensures
     ∙ rw (fresh-is (c .before .before .before .before), read .ensures)
-    (begin-refused line o refl (λ z. c .before .if1 .taken (ap (λ (n : NumberAnswer). n .refusal) (read .ensures) ∙ z)))
+    (beginOf-refused line o refl (λ z. c .before .if1 .taken (ap (λ (n : NumberAnswer). n .refusal) (read .ensures) ∙ z)))
 
 returns-2 : tie.Need-returns-2
 returns-2 c =
@@ -33,7 +33,7 @@ returns-2 c =
     let o = textLineNumber (textLineAt line 0) in
     c .reading-of-none2 .ensures
     ∙ rw (fresh-is (c .before .before .before .before), read .ensures)
-    (begin-taken line o refl (sym (ap (λ (n : NumberAnswer). n .refusal) (read .ensures)) ∙ c .before .if1 .left))
+    (beginOf-accepted line o refl (sym (ap (λ (n : NumberAnswer). n .refusal) (read .ensures)) ∙ c .before .if1 .left))
 
 pub begin-spec : {M : Type 1} → statement M
 begin-spec =

@@ -3,8 +3,8 @@ use mathlib.Core.Path.{refl, _∙_}
 use borrow.Author.Needs.{needs}
 use Rattle.groups.specs.Group.{groupValuesAnswer}
 use Rattle.recordings.specs.Output.{rowOf}
-use Rattle.recordings.specs.Reading.{windowTaken}
-use Rattle.recordings.proofs.WindowLines.{lines-of-window}
+use Rattle.recordings.specs.Blocks.{windowTaken}
+use Rattle.recordings.proofs.WindowLines.{spectrumExit-window}
 use Rattle.recordings.proofs.blocks.take_window.Statement.{statement}
 use Rattle.recordings.proofs.blocks.take_window.Tie as tie
 
@@ -17,7 +17,7 @@ returns c =
     let at-lines = at-groups .before .before .before .before in
     let start = at-lines .before .before in
     let samples = start .args .samples .now in
-    let lines = at-lines .spectrum .ensures .1 ∙ lines-of-window samples _ (start .pre .0) refl (start .pre .1) in
+    let lines = at-lines .spectrum .ensures .1 ∙ spectrumExit-window samples _ (start .pre .0) refl (start .pre .1) in
     rw (at-added .add-row .ensures, at-subgroups .group-values2 .ensures, at-groups .group-values .ensures, lines)
 
 pub take-window-spec : {M : Type 1} → statement M

@@ -1,4 +1,4 @@
--- `recordings::lines::sample_on_line` meets its contract.
+-- `recordings::text_lines::sample_on_line` meets its contract.
 use mathlib.Core.List.{List}
 use mathlib.Core.Path.{_≡_, refl, sym, ap, _∙_}
 use Prim.Native.Nat.{ℕ}
@@ -8,10 +8,10 @@ use mir.Syntax.{w64}
 use Rattle.columns.specs.declared.NumberAnswer.{NumberAnswer}
 use Rattle.columns.specs.Calls.{readingOf}
 use Rattle.spectrum.specs.Spectrum.{outOfRange}
-use Rattle.recordings.specs.Lines.{textLineAt, textLineNumber}
-use Rattle.recordings.proofs.Samples.{sample-out, sample-in}
-use Rattle.recordings.proofs.lines.sample_on_line.Statement.{statement}
-use Rattle.recordings.proofs.lines.sample_on_line.Tie as tie
+use Rattle.recordings.specs.TextLines.{textLineAt, textLineNumber}
+use Rattle.recordings.proofs.Samples.{sampleOn-out, sampleOn-in}
+use Rattle.recordings.proofs.text_lines.sample_on_line.Statement.{statement}
+use Rattle.recordings.proofs.text_lines.sample_on_line.Tie as tie
 
 line-of : (c : tie.Start) → List ℕ
 line-of c = textLineAt (c .args .text .now) (c .args .line)
@@ -28,13 +28,13 @@ returns : tie.Need-returns
 unfolding line-of
 returns c =
     let line = line-of (c .before .before .before .before .before) in
-    sample-out line (textLineNumber line) refl (tested (c .before) ∙ c .if1 .taken)
+    sampleOn-out line (textLineNumber line) refl (tested (c .before) ∙ c .if1 .taken)
 
 returns-2 : tie.Need-returns-2
 unfolding line-of
 returns-2 c =
     let line = line-of (c .before .before .before .before .before) in
-    c .before .before .before .number-on-line .ensures ∙ sample-in line (textLineNumber line) refl (tested (c .before) ∙ c .if1 .left)
+    c .before .before .before .number-on-line .ensures ∙ sampleOn-in line (textLineNumber line) refl (tested (c .before) ∙ c .if1 .left)
 
 pub sample-on-line-spec : {M : Type 1} → statement M
 sample-on-line-spec =

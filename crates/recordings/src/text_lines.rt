@@ -12,7 +12,7 @@ ghost use mathlib.Core.Path.{_≡_};
 ghost use Prim.Native.Nat.{_+_, _*_, _≤_, _<_};
 ghost use lib.ListN.{length};
 ghost use Rattle.columns.specs.Calls.{readingOf};
-ghost use Rattle.recordings.specs.Lines.{textLineBytes, textLineAt, textLineNumber};
+ghost use Rattle.recordings.specs.TextLines.{textLineBytes, textLineAt, textLineNumber};
 ghost use Rattle.recordings.specs.Steps.{sampleOn, ReadInto};
 
 // The number on a line of the text, counted from 0, or 13.
@@ -52,7 +52,7 @@ fn sample_on_line(text: &[u8], line: usize) -> NumberAnswer
     number
 }
 
-// Reads the samples on the first lines of the block, and answers the first fault.
+// Reads the samples on the first lines of the block, and answers the first refusal.
 pub(crate) fn read_samples(block: &[u8], count: usize, samples: &mut [i32]) -> u32
     requires { ⌜ count ≤ length (now samples) ⌝ }
     requires { ⌜ textLineBytes * count < length (now block) + textLineBytes ⌝ }

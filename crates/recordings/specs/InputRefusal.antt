@@ -1,4 +1,4 @@
--- The first fault of an input in input order (document 01, "Columns and the listing").
+-- The refusal of an input: the first of its lines in input order, or that of its end (document 01, "Columns and the listing").
 use mathlib.Core.Bool.{Bool, true, false, cond, not, _&&_}
 use mathlib.Core.List.{List, [], _∷_}
 use mathlib.Core.Option.{Option, none, some}
@@ -11,7 +11,7 @@ use Rattle.spectrum.specs.Line.{windowLength}
 use Rattle.spectrum.specs.Spectrum.{outOfRange}
 use Rattle.rows.specs.Systems.{isSystem}
 use Rattle.observation.specs.Soundness.{mostWindows}
-use Rattle.recordings.specs.Lines.{textLineCount, textLineAt, textLineNumber, numberOr0}
+use Rattle.recordings.specs.TextLines.{textLineCount, textLineAt, textLineNumber, numberOr0}
 
 -- a number that is no system; one with a minus is none
 unfoldable pub noSystem : ℤ → Bool
@@ -24,36 +24,40 @@ isNone none = true
 isNone (some z) = false
 
 -- "13 for another line (also one without its newline) .., 1, 3, 9 at the last line of window 45,001, and two on one line in that order": by the number on a line and the line's place; line 0 has the system, line i the i-th sample
-unfoldable pub numberRefusal : Option ℤ → ℕ → ℕ
-numberRefusal number i =
-    firstFault
-    ((isNone number, notAColumn) ∷
+abbrev pub numberChecks : Option ℤ → ℕ → List (Bool × ℕ)
+numberChecks number i =
+    (isNone number, notAColumn) ∷
     (eqb i 0 && noSystem (numberOr0 number), unknownSystem) ∷
     (not (eqb i 0) && outOfRange (numberOr0 number), sampleOutOfRange) ∷
     (eqb i (windowLength * (mostWindows + 1)), recordFull) ∷
-    [])
+    []
 
--- the fault of a line of the text
+unfoldable pub numberRefusal : Option ℤ → ℕ → ℕ
+numberRefusal number i = firstFault (numberChecks number i)
+
+-- the refusal of a line of the text
 unfoldable pub textLineRefusal : List ℕ → ℕ → ℕ
 textLineRefusal text i = numberRefusal (textLineNumber (textLineAt text i)) i
 
--- the first fault of the places before n in their order, with the fault of each place given
+-- the first refusal of the places before n in their order, with the refusal of each place given
 unfoldable pub firstOf : (ℕ → ℕ) → ℕ → ℕ
-firstOf fault zero = noRefusal
-firstOf fault (suc n) = cond (eqb (firstOf fault n) noRefusal) (fault n) (firstOf fault n)
+firstOf refusal zero = noRefusal
+firstOf refusal (suc n) = cond (eqb (firstOf refusal n) noRefusal) (refusal n) (firstOf refusal n)
 
--- the first fault of the lines before line n
+-- the first refusal of the lines before line n
 unfoldable pub refusalBefore : List ℕ → ℕ → ℕ
 refusalBefore text n = firstOf (textLineRefusal text) n
 
 -- "no system line" 13; "at the end 10 (no sample at all) or 2 (the last window is short)"
-unfoldable pub endRefusal : ℕ → ℕ
-endRefusal lines =
-    firstFault
-    ((eqb lines 0, notAColumn) ∷
+abbrev pub endChecks : ℕ → List (Bool × ℕ)
+endChecks lines =
+    (eqb lines 0, notAColumn) ∷
     (eqb lines 1, noWindow) ∷
     (not (eqb ((lines - 1) % windowLength) 0), shortWindow) ∷
-    [])
+    []
+
+unfoldable pub endRefusal : ℕ → ℕ
+endRefusal lines = firstFault (endChecks lines)
 
 -- the refusal of an input, or none
 unfoldable pub inputRefusal : List ℕ → ℕ
