@@ -12,3 +12,4 @@ pub mod Largest
 pub mod Computed
 pub mod Rounding
 pub mod Fraction
+pub mod Signed64

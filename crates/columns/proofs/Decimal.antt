@@ -70,11 +70,9 @@ decimal-ind P below above n = within (suc n) n (le-refl (suc n))
     within (suc k) n h = by-test n (decLt n 10) (λ ten. within k (n / 10) (omega arith))
 
 pub digit-of : (d : ℕ) → d < 10 → isDigit (digitByte d) ≡ true
-unfolding isDigit
 digit-of d h = rw (le-leb digitZero (digitByte d) (omega arith), lt-ltb (digitByte d) (digitZero + 10) (omega arith))
 
 pub digit-bounds : (b : ℕ) → isDigit b ≡ true → (digitZero ≤ b) × (b < digitZero + 10)
-unfolding isDigit
 digit-bounds b h =
     let two = both-true (leb digitZero b) (ltb b (digitZero + 10)) h in
     (leb-true digitZero b (two .0), ltb-true b (digitZero + 10) (two .1))

@@ -6,8 +6,8 @@ use Prim.Native.String.{String}
 use Prim.Native.Nat.{ℕ}
 use lib.IntN.{ℤ, pos, negsuc}
 use Rattle.columns.specs.Text.{bytesOf, rightJustified}
-use Rattle.columns.specs.Column.{decimalWithin, decimalText, numberText, fitsColumn, columnText, isDigit, areDigits, isWhole, placeValue, wholeNumber, negativeNumber, signedNumber, afterBlanks, columnNumber}
-use Rattle.columns.specs.Calls.{columnReadAnswer, writeRefusal, columnWriteRefusal, columnWriteExit}
+use Rattle.columns.specs.Column.{decimalWithin, decimalText, numberText, fitsColumn, columnText, areDigits, isWhole, placeValue, wholeNumber, negativeNumber, signedNumber, afterBlanks, columnNumber}
+use Rattle.columns.specs.Calls.{columnReadAnswer, columnWriteRefusal, columnWriteExit}
 use Rattle.columns.specs.declared.NumberAnswer.{NumberAnswer}
 
 record Case : Type 0 where
@@ -43,7 +43,7 @@ answered (some z) = record { refusal = 0; value = z }
 
 -- each text reads as its number, or is refused
 readings : map (λ c. columnReadAnswer (bytesOf (c .text))) cases ≡ map (λ c. answered (c .number)) cases
-unfolding bytesOf columnReadAnswer columnNumber signedNumber afterBlanks negativeNumber wholeNumber isWhole isDigit placeValue areDigits
+unfolding bytesOf columnReadAnswer columnNumber signedNumber afterBlanks negativeNumber wholeNumber isWhole placeValue areDigits
 readings = refl
 
 -- and each number has its text
@@ -72,10 +72,10 @@ writings =
     ∷ record { buffer = "?????????"; number = pos 100000000; refusal = 14; after = "?????????" }
     ∷ []
 
-faults : map (λ c. columnWriteRefusal (bytesOf (c .buffer)) (c .number)) writings ≡ map (λ c. c .refusal) writings
-unfolding bytesOf writeRefusal fitsColumn numberText decimalText decimalWithin
-faults = refl
+refusals : map (λ c. columnWriteRefusal (bytesOf (c .buffer)) (c .number)) writings ≡ map (λ c. c .refusal) writings
+unfolding bytesOf fitsColumn numberText decimalText decimalWithin
+refusals = refl
 
 written : map (λ c. columnWriteExit (bytesOf (c .buffer)) (c .number)) writings ≡ map (λ c. bytesOf (c .after)) writings
-unfolding bytesOf writeRefusal fitsColumn columnText rightJustified numberText decimalText decimalWithin
+unfolding bytesOf fitsColumn columnText rightJustified numberText decimalText decimalWithin
 written = refl

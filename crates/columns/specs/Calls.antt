@@ -1,25 +1,19 @@
--- What the calls of columns and of the listing answer: the rows "column read", "column write" and "listing" of document 01's refusal table.
-use mathlib.Core.Bool.{cond, not}
-use mathlib.Core.List.{List, [], _∷_, _++_}
+-- What the calls of columns answer: the rows "column read" and "column write" of document 01's refusal table.
+use mathlib.Core.Bool.{Bool, cond, not}
+use mathlib.Core.List.{List, [], _∷_}
 use mathlib.Core.Option.{Option, none, some}
 use Prim.Native.Nat.{ℕ}
-use lib.Dec.{eqb, ltb}
+use lib.Dec.{eqb}
 use lib.IntN.{ℤ, pos}
-use lib.ListN.{length, drop}
+use lib.ListN.{length}
 use Rattle.refusals.specs.Numbers.{noRefusal, notAColumn, wrongBufferLength}
-use Rattle.refusals.specs.Answers.{firstFault, unlessRefused, answer}
-use Rattle.refusals.specs.declared.Answer.{Answer}
+use Rattle.refusals.specs.Answers.{firstFault, unlessRefused}
 use Rattle.columns.specs.Column.{columnText, columnNumber, fitsColumn}
-use Rattle.columns.specs.Listing.{listingText, refusalWidth, refusalLineLength, refusalLine}
 use Rattle.columns.specs.declared.NumberAnswer.{NumberAnswer}
 
 -- the width of a column that is read or written alone
 abbrev pub columnWidth : ℕ
 columnWidth = 8
-
--- the bytes that a listing may need: its header and the lines of 40 orders
-abbrev pub listingRoom : ℕ
-listingRoom = 1640
 
 -- the widest column that the reader takes: the numbers of 18 digits fit 64 bits with a sign
 abbrev pub widestRead : ℕ
@@ -34,39 +28,30 @@ readingOf (some z) = record { refusal = noRefusal; value = z }
 unfoldable pub columnReadAnswer : List ℕ → NumberAnswer
 columnReadAnswer text = readingOf (cond (eqb (length text) columnWidth) (columnNumber text) none)
 
--- "14 buffer not 8 bytes; 13 number wider than 8", for a text of n bytes that has a column of w bytes
-unfoldable pub writeRefusal : ℕ → ℕ → List ℕ → ℤ → ℕ
-writeRefusal n w buffer number =
-    firstFault
-    ((not (eqb (length buffer) n), wrongBufferLength) ∷ (not (fitsColumn w number), notAColumn) ∷ [])
+-- the check "14 buffer not 8 bytes", for n bytes
+abbrev pub lengthCheck : ℕ → List ℕ → Bool × ℕ
+lengthCheck n buffer = (not (eqb (length buffer) n), wrongBufferLength)
+
+-- the check "13 number wider than 8", for w bytes
+abbrev pub widthCheck : ℕ → ℤ → Bool × ℕ
+widthCheck w number = (not (fitsColumn w number), notAColumn)
+
+-- "14 buffer not 8 bytes; 13 number wider than 8"
+abbrev pub columnWriteChecks : List ℕ → ℤ → List (Bool × ℕ)
+columnWriteChecks buffer number = lengthCheck columnWidth buffer ∷ widthCheck columnWidth number ∷ []
 
 abbrev pub columnWriteRefusal : List ℕ → ℤ → ℕ
-columnWriteRefusal buffer number = writeRefusal columnWidth columnWidth buffer number
+columnWriteRefusal buffer number = firstFault (columnWriteChecks buffer number)
 
 -- what the buffer holds after a column is written
 abbrev pub columnWriteExit : List ℕ → ℤ → List ℕ
 columnWriteExit buffer number =
     unlessRefused (columnWriteRefusal buffer number) (columnText columnWidth number) buffer
 
--- the same of the line for a refusal
-abbrev pub refusalLineRefusal : List ℕ → ℕ → ℕ
-refusalLineRefusal buffer refusal = writeRefusal refusalLineLength refusalWidth buffer (pos refusal)
+-- the same of a column as wide as the buffer
+abbrev pub columnFillRefusal : List ℕ → ℤ → ℕ
+columnFillRefusal buffer number = firstFault (widthCheck (length buffer) number ∷ [])
 
-abbrev pub refusalLineExit : List ℕ → ℕ → List ℕ
-refusalLineExit buffer refusal =
-    unlessRefused (refusalLineRefusal buffer refusal) (refusalLine refusal) buffer
-
--- "14 buffer shorter than 1,640 bytes"
-unfoldable pub listingRefusal : List ℕ → ℕ
-listingRefusal buffer = firstFault ((ltb (length buffer) listingRoom, wrongBufferLength) ∷ [])
-
--- the count of bytes written
-abbrev pub listingAnswer : List ℕ → List ℕ → List ℕ → List ℕ → Answer
-listingAnswer buffer group subgroup smoothed =
-    answer (listingRefusal buffer) (length (listingText group subgroup smoothed))
-
--- what the buffer holds after a listing: "bytes after them stay"
-unfoldable pub listingExit : List ℕ → List ℕ → List ℕ → List ℕ → List ℕ
-listingExit buffer group subgroup smoothed =
-    let text = listingText group subgroup smoothed in
-    unlessRefused (listingRefusal buffer) (text ++ drop (length text) buffer) buffer
+abbrev pub columnFillExit : List ℕ → ℤ → List ℕ
+columnFillExit buffer number =
+    unlessRefused (columnFillRefusal buffer number) (columnText (length buffer) number) buffer

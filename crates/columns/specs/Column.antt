@@ -37,7 +37,7 @@ unfoldable pub columnText : ℕ → ℤ → List ℕ
 columnText w z = rightJustified w (numberText z)
 
 -- the byte is one of the ten digits
-unfoldable pub isDigit : ℕ → Bool
+abbrev pub isDigit : ℕ → Bool
 isDigit b = leb digitZero b && ltb b (digitZero + 10)
 
 unfoldable pub areDigits : List ℕ → Bool

@@ -1,5 +1,4 @@
--- What document 01 says of number columns and of the listing.
+-- What document 01 says of number columns.
 pub mod Text
 pub mod Column
-pub mod Listing
 pub mod Calls

@@ -1,12 +1,10 @@
 -- Texts as lists of bytes.
 use mathlib.Core.List.{List, [], _∷_, _++_}
-use mathlib.Core.Path.{_≡_}
-use Prim.Native.Nat.{ℕ, _+_, _-_}
+use Prim.Native.Nat.{ℕ, _-_}
 use Prim.Native.Char.{code}
 use Prim.Native.String as String
 use Prim.Native.String.{String}
 use lib.ListN.{length, replicate}
-use lib.Seq.{sets}
 
 abbrev pub blank : ℕ
 blank = 32
@@ -29,8 +27,3 @@ bytesOf (String._∷_ c text) = code c ∷ bytesOf text
 -- a text at the right end of a column of w bytes, blanks before it
 unfoldable pub rightJustified : ℕ → List ℕ → List ℕ
 rightJustified w text = replicate (w - length text) blank ++ text
-
--- a text is put into a buffer from the place `at` on: the place after it, and the buffer afterwards, whose other bytes are as they were
-pub record Put (buffer : List ℕ) (at : ℕ) (text : List ℕ) (next : ℕ) (after : List ℕ) : Type 0 where
-  pub place : next ≡ at + length text
-  pub holds : after ≡ sets buffer at text

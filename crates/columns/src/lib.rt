@@ -1,20 +1,16 @@
-// Number columns of any width and the listing of the 40 orders. A text is a slice of bytes that the
-// caller lends.
-mod listing;
+// Number columns of any width. A text is a slice of bytes that the caller lends.
 mod reading;
 mod writing;
 
-pub use listing::LISTING_ROOM;
-pub use listing::REFUSAL_LINE_LENGTH;
-pub use listing::fill_listing;
-pub use listing::fill_refusal_line;
 pub use reading::read_column;
+pub use writing::fill_column;
+pub use writing::fits_column;
 pub use writing::write_column;
 
 // The width of a column that is read or written alone.
 pub const COLUMN_WIDTH: usize = 8;
 
-// The bytes of a column and of a line.
+// The bytes of a column and of a text line.
 const BLANK: u8 = 32;
 
 const MINUS: u8 = 45;

@@ -132,7 +132,7 @@ fn are_digits(text: &[u8]) -> bool
 fn is_digit(byte: u8) -> bool
     ensures { λ r. ⌜ r ≡ isDigit byte ⌝ }
 {
-    DIGIT_ZERO <= byte && byte < DIGIT_ZERO + 10
+    (DIGIT_ZERO <= byte) & (byte < DIGIT_ZERO + 10)
 }
 
 // The number that digits stand for.

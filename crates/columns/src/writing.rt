@@ -6,48 +6,46 @@ use crate::MINUS;
 use refusals::NO_REFUSAL;
 use refusals::NOT_A_COLUMN;
 use refusals::WRONG_BUFFER_LENGTH;
-ghost use mathlib.Core.Bool.{true};
 ghost use mathlib.Core.Path.{_≡_};
 ghost use Prim.Native.Nat.{_<_};
 ghost use lib.IntN.{natAbs};
 ghost use lib.ListN.{length, replicate};
 ghost use Rattle.columns.specs.Text.{blank};
-ghost use Rattle.columns.specs.Column.{digitByte, decimalText, numberText, fitsColumn, columnText};
-ghost use Rattle.columns.specs.Calls.{writeRefusal, columnWriteRefusal, columnWriteExit};
+ghost use Rattle.columns.specs.Column.{digitByte, decimalText, numberText, fitsColumn};
+ghost use Rattle.columns.specs.Calls.{columnWriteRefusal, columnWriteExit, columnFillRefusal, columnFillExit};
 
 // Writes the column of a number into a buffer of 8 bytes, and answers the refusal, or NO_REFUSAL.
 pub fn write_column(buffer: &mut [u8], number: i64) -> u32
     ensures { λ r. ⌜ r ≡ columnWriteRefusal (now (buffer .entry)) number ⌝ }
     ensures { λ _. ⌜ now (buffer .exit) ≡ columnWriteExit (now (buffer .entry)) number ⌝ }
 {
-    let fault = write_fault(COLUMN_WIDTH, COLUMN_WIDTH, buffer, number);
-    if fault == NO_REFUSAL {
-        fill_column(buffer, number);
-    }
-    fault
-}
-
-// What refuses a text of a length that has a column of a width for a number, or NO_REFUSAL.
-pub(crate) fn write_fault(length: usize, width: usize, buffer: &[u8], number: i64) -> u32
-    ensures { λ r. ⌜ r ≡ writeRefusal length width (now (buffer .entry)) number ⌝ }
-{
-    if buffer.len() != length {
+    if buffer.len() != COLUMN_WIDTH {
         return WRONG_BUFFER_LENGTH;
     }
-    if text_length(number) > width {
+    fill_column(buffer, number)
+}
+
+// Fills the buffer with the column of a number, as wide as the buffer, and answers the refusal, or
+// NO_REFUSAL.
+pub fn fill_column(buffer: &mut [u8], number: i64) -> u32
+    ensures { λ r. ⌜ r ≡ columnFillRefusal (now (buffer .entry)) number ⌝ }
+    ensures { λ _. ⌜ now (buffer .exit) ≡ columnFillExit (now (buffer .entry)) number ⌝ }
+{
+    let length = text_length(number);
+    if buffer.len() < length {
         return NOT_A_COLUMN;
     }
+    let blanks = buffer.len() - length;
+    fill_blanks(&mut buffer[..blanks]);
+    write_number(&mut buffer[blanks..], number);
     NO_REFUSAL
 }
 
-// Fills the buffer with the column of a number that fits it.
-pub(crate) fn fill_column(buffer: &mut [u8], number: i64)
-    requires { ⌜ fitsColumn (length (now buffer)) number ≡ true ⌝ }
-    ensures { λ _. ⌜ now (buffer .exit) ≡ columnText (length (now (buffer .entry))) number ⌝ }
+// Whether a column of a width can hold a number.
+pub fn fits_column(width: usize, number: i64) -> bool
+    ensures { λ r. ⌜ r ≡ fitsColumn width number ⌝ }
 {
-    let blanks = buffer.len() - text_length(number);
-    fill_blanks(&mut buffer[..blanks]);
-    write_number(&mut buffer[blanks..], number);
+    text_length(number) <= width
 }
 
 fn fill_blanks(buffer: &mut [u8])

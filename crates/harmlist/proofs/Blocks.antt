@@ -13,11 +13,12 @@ use Rattle.io.specs.Counts.{Counts}
 use Rattle.refusals.specs.Numbers.{noRefusal}
 use Rattle.observation.specs.Soundness.{mostWindows}
 use Rattle.recordings.specs.declared.Reading.{Reading}
-use Rattle.recordings.specs.Lines.{textLineBytes}
-use Rattle.recordings.specs.Reading.{windowBytes, blockOf, outputOf}
-use Rattle.recordings.specs.Blocks.{joined, readingAfter, WholeButLast, CutInBlocks}
-use Rattle.recordings.proofs.WindowAdded.{block-added}
-use Rattle.recordings.proofs.Follows.{follows-definition, reading-of-append}
+use Rattle.recordings.specs.TextLines.{textLineBytes}
+use Rattle.recordings.specs.Blocks.{windowBytes, blockOf}
+use Rattle.recordings.specs.Ending.{outputOf}
+use Rattle.recordings.specs.Follows.{joined, readingAfter, WholeButLast, CutInBlocks}
+use Rattle.recordings.proofs.WindowAdded.{blockOf-added}
+use Rattle.recordings.proofs.Follows.{follows-definition, readingAfter-append}
 use Rattle.harmlist.specs.declared.Input.{Input}
 use Rattle.harmlist.specs.Input.{BytesRead, LineRead, BlockRead, Ends, BlocksRead, TextRead}
 
@@ -86,7 +87,7 @@ reading-and-one :
     (first : Reading) (blocks : List (List ℕ)) (block : List ℕ) →
     readingAfter first (blocks ++ (block ∷ [])) ≡ blockOf (readingAfter first blocks) block
 unfolding readingAfter
-reading-and-one first blocks block = reading-of-append first blocks (block ∷ [])
+reading-and-one first blocks block = readingAfter-append first blocks (block ∷ [])
 
 -- ---- the reading of blocks
 
@@ -150,7 +151,7 @@ module _ (first reading : Reading) (so-far : SoFar first reading) where
           by-refusal (yes z) =
               let after : blockOf reading (read .bytes) .refusal ≡ noRefusal =
               sym (ap (λ (r : Reading). r .refusal) (read .reading-is)) ∙ z in
-              let added = block-added reading (read .bytes) (λ none. omega (arith, is-whole)) after in
+              let added = blockOf-added reading (read .bytes) (λ none. omega (arith, is-whole)) after in
               let windows = ap (λ (r : Reading). r .observation .windows) (read .reading-is) in
               rw (eq-eqb (reading .refusal) noRefusal e, eq-eqb (input .reading .refusal) noRefusal z)
               (omega (arith, added, windows))

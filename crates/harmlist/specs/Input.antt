@@ -8,10 +8,11 @@ use lib.Dec.{ltb}
 use lib.ListN.{length}
 use Rattle.refusals.specs.Numbers.{noRefusal}
 use Rattle.recordings.specs.declared.Reading.{Reading}
-use Rattle.recordings.specs.Lines.{textLineBytes}
+use Rattle.recordings.specs.TextLines.{textLineBytes}
 use Rattle.recordings.specs.Output.{harmlistOutput}
-use Rattle.recordings.specs.Reading.{windowBytes, beginOf, blockOf, outputOf}
-use Rattle.recordings.specs.Blocks.{WholeButLast, readingAfter}
+use Rattle.recordings.specs.Blocks.{windowBytes, beginOf, blockOf}
+use Rattle.recordings.specs.Ending.{outputOf}
+use Rattle.recordings.specs.Follows.{WholeButLast, readingAfter}
 use Rattle.harmlist.specs.declared.Input.{Input}
 
 -- so many bytes were read, or fewer, and what they are read as

@@ -7,8 +7,10 @@ pub mod WindowAdded
 pub mod FirstLine
 pub mod WindowLines
 pub mod TextLines
-pub mod WindowFaults
+pub mod WindowRefusals
 pub mod Output
-pub mod Written
+pub mod EndingLaws
+pub mod Holds
+pub mod WindowHolds
 pub mod Follows
 pub mod WorkedInputs

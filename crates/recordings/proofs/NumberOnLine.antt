@@ -10,7 +10,7 @@ use lib.Seq.{take-take, getD-take, getD-drop, length-take-le, take-all}
 use Rattle.columns.specs.Text.{newline}
 use Rattle.columns.specs.Column.{columnNumber}
 use Rattle.columns.specs.Calls.{columnWidth, readingOf, columnReadAnswer}
-use Rattle.recordings.specs.Lines.{textLineBytes, textLineAt, textLineNumber}
+use Rattle.recordings.specs.TextLines.{textLineBytes, textLineAt, textLineNumber}
 
 module _ (text : List ℕ) (i : ℕ) where
   abbrev rest : List ℕ
@@ -22,9 +22,9 @@ module _ (text : List ℕ) (i : ℕ) where
       let short : length rest ≡ textLineBytes = rw all at e in
       omega (arith, length-drop (textLineBytes * i) text)
 
-  pub number-of-cut : length text - textLineBytes * i < textLineBytes → textLineNumber (textLineAt text i) ≡ none
+  pub textLineNumber-cut : length text - textLineBytes * i < textLineBytes → textLineNumber (textLineAt text i) ≡ none
   unfolding textLineNumber textLineAt
-  number-of-cut h = rw (ne-eqb (length (take textLineBytes rest)) textLineBytes (length-of-cut h))
+  textLineNumber-cut h = rw (ne-eqb (length (take textLineBytes rest)) textLineBytes (length-of-cut h))
 
   module _ (fits : textLineBytes ≤ length text - textLineBytes * i) where
     length-of-line : length (take textLineBytes rest) ≡ textLineBytes
@@ -33,17 +33,17 @@ module _ (text : List ℕ) (i : ℕ) where
     last-byte : getD (take textLineBytes rest) columnWidth 0 ≡ getD text (textLineBytes * i + columnWidth) 0
     last-byte = getD-take textLineBytes rest columnWidth 0 (omega arith) ∙ getD-drop (textLineBytes * i) text columnWidth 0
 
-    pub number-without-newline : (getD text (textLineBytes * i + columnWidth) 0 ≡ newline → ⊥) → textLineNumber (textLineAt text i) ≡ none
+    pub textLineNumber-no-newline : (getD text (textLineBytes * i + columnWidth) 0 ≡ newline → ⊥) → textLineNumber (textLineAt text i) ≡ none
     unfolding textLineNumber textLineAt
-    number-without-newline f =
+    textLineNumber-no-newline f =
         rw (
           eq-eqb (length (take textLineBytes rest)) textLineBytes length-of-line,
           ne-eqb (getD (take textLineBytes rest) columnWidth 0) newline (λ e. f (sym last-byte ∙ e)),
         )
 
-    pub number-of-column : getD text (textLineBytes * i + columnWidth) 0 ≡ newline → textLineNumber (textLineAt text i) ≡ columnNumber (take columnWidth rest)
+    pub textLineNumber-column : getD text (textLineBytes * i + columnWidth) 0 ≡ newline → textLineNumber (textLineAt text i) ≡ columnNumber (take columnWidth rest)
     unfolding textLineNumber textLineAt
-    number-of-column e =
+    textLineNumber-column e =
         rw (
           eq-eqb (length (take textLineBytes rest)) textLineBytes length-of-line,
           eq-eqb (getD (take textLineBytes rest) columnWidth 0) newline (last-byte ∙ e),
@@ -51,9 +51,9 @@ module _ (text : List ℕ) (i : ℕ) where
         )
 
     -- what the call that reads a column answers for the line's column
-    pub column-read : columnReadAnswer (take (textLineBytes * i + columnWidth - textLineBytes * i) rest) ≡ readingOf (columnNumber (take columnWidth rest))
+    pub columnReadAnswer-text-line : columnReadAnswer (take (textLineBytes * i + columnWidth - textLineBytes * i) rest) ≡ readingOf (columnNumber (take columnWidth rest))
     unfolding columnReadAnswer
-    column-read =
+    columnReadAnswer-text-line =
         let width : textLineBytes * i + columnWidth - textLineBytes * i ≡ columnWidth = omega arith in
         let long : length (take columnWidth rest) ≡ columnWidth =
         length-take-le columnWidth rest (rw (length-drop (textLineBytes * i) text) (omega arith)) in

@@ -15,46 +15,46 @@ use Rattle.observation.specs.Calls.{addRowRefusal, addRowAnswer, withRow}
 use Rattle.observation.proofs.SoundRecord.{accepted-call}
 use Rattle.recordings.specs.declared.Reading.{Reading}
 use Rattle.recordings.specs.Output.{rowOf}
-use Rattle.recordings.specs.Reading.{windowBytes, textLinesRefusal, blockLines, samplesOf, windowTaken, blockOf}
-use Rattle.recordings.proofs.BlockLaws.{block-of-refused, block-of-fault, block-of-short, block-of-whole}
+use Rattle.recordings.specs.Blocks.{windowBytes, textLinesRefusal, blockLines, samplesOf, windowTaken, blockOf}
+use Rattle.recordings.proofs.BlockLaws.{blockOf-refused, blockOf-text-line, blockOf-short, blockOf-whole}
 
-pub answer-with-row : (o : Observation) (row : Row) → addRowRefusal o row ≡ noRefusal → addRowAnswer o row .observation ≡ withRow o row
+pub addRowAnswer-accepted : (o : Observation) (row : Row) → addRowRefusal o row ≡ noRefusal → addRowAnswer o row .observation ≡ withRow o row
 unfolding addRowAnswer
-answer-with-row o row e = rw e
+addRowAnswer-accepted o row e = rw e
 
-pub windows-of-with : (o : Observation) (row : Row) → withRow o row .windows ≡ o .windows + 1
+pub withRow-windows : (o : Observation) (row : Row) → withRow o row .windows ≡ o .windows + 1
 unfolding withRow
-windows-of-with o row = refl
+withRow-windows o row = refl
 
 -- a record with room before, and one window more after
 abbrev pub OneMore : Reading → Reading → Type 0
 OneMore before after =
     (before .observation .windows < mostWindows) × (after .observation .windows ≡ before .observation .windows + 1)
 
-window-added :
+windowTaken-added :
     (reading : Reading) (window : List ℤ) → windowTaken reading window .refusal ≡ noRefusal →
     OneMore reading (windowTaken reading window)
 unfolding windowTaken addRowAnswer
-window-added reading window e =
+windowTaken-added reading window e =
     let o = reading .observation in
     let row = rowOf HarmonicGroup (o .system) window in (
       accepted-call o row e .row-accepted .room,
-      ap (λ (r : Observation). r .windows) (answer-with-row o row e) ∙ windows-of-with o row,
+      ap (λ (r : Observation). r .windows) (addRowAnswer-accepted o row e) ∙ withRow-windows o row,
     )
 
-pub block-added :
+pub blockOf-added :
     (reading : Reading) (block : List ℕ) → (length block ≡ 0 → ⊥) → blockOf reading block .refusal ≡ noRefusal →
     OneMore reading (blockOf reading block)
-block-added reading block some after = by-refusal (ℕ-discrete (reading .refusal) noRefusal)
+blockOf-added reading block some after = by-refusal (ℕ-discrete (reading .refusal) noRefusal)
   where
     by-length :
         (e : reading .refusal ≡ noRefusal) → textLinesRefusal block (blockLines block) ≡ noRefusal →
         Dec (windowBytes ≤ length block) → OneMore reading (blockOf reading block)
     by-length e none (yes whole) =
-        let same = block-of-whole reading block e some none whole in
-        rw same (window-added reading (samplesOf block) (rw same at after))
+        let same = blockOf-whole reading block e some none whole in
+        rw same (windowTaken-added reading (samplesOf block) (rw same at after))
     by-length e none (no f) =
-        let short = ap (λ (r : Reading). r .refusal) (block-of-short reading block e some none (omega arith)) in
+        let short = ap (λ (r : Reading). r .refusal) (blockOf-short reading block e some none (omega arith)) in
         let same : shortWindow ≡ noRefusal = sym short ∙ after in
         absurd (omega arith)
 
@@ -63,8 +63,8 @@ block-added reading block some after = by-refusal (ℕ-discrete (reading .refusa
         Dec (textLinesRefusal block (blockLines block) ≡ noRefusal) → OneMore reading (blockOf reading block)
     by-lines e (yes none) = by-length e none (decLe windowBytes (length block))
     by-lines e (no f) =
-        absurd (f (sym (ap (λ (r : Reading). r .refusal) (block-of-fault reading block e some f)) ∙ after))
+        absurd (f (sym (ap (λ (r : Reading). r .refusal) (blockOf-text-line reading block e some f)) ∙ after))
 
     by-refusal : Dec (reading .refusal ≡ noRefusal) → OneMore reading (blockOf reading block)
     by-refusal (yes e) = by-lines e (ℕ-discrete (textLinesRefusal block (blockLines block)) noRefusal)
-    by-refusal (no f) = absurd (f (sym (ap (λ (r : Reading). r .refusal) (block-of-refused reading block f)) ∙ after))
+    by-refusal (no f) = absurd (f (sym (ap (λ (r : Reading). r .refusal) (blockOf-refused reading block f)) ∙ after))

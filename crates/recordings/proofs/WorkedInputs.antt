@@ -10,11 +10,11 @@ use lib.Dec.{eqb}
 use lib.IntN.{ℤ, pos, negsuc}
 use Rattle.algebra.specs.Computed.{allPass}
 use Rattle.columns.specs.Text.{newline, bytesOf}
-use Rattle.columns.specs.Column.{isDigit, areDigits, isWhole, placeValue, wholeNumber, negativeNumber, signedNumber, afterBlanks, columnNumber}
+use Rattle.columns.specs.Column.{areDigits, isWhole, placeValue, wholeNumber, negativeNumber, signedNumber, afterBlanks, columnNumber}
 use Rattle.spectrum.specs.Spectrum.{outOfRange}
 use Rattle.rows.specs.Systems.{isSystem}
-use Rattle.recordings.specs.Lines.{textLineCount, textLineAt, textLineNumber, numberOr0}
-use Rattle.recordings.specs.Faults.{noSystem, isNone, numberRefusal, textLineRefusal, firstOf, refusalBefore, endRefusal, inputRefusal}
+use Rattle.recordings.specs.TextLines.{textLineCount, textLineAt, textLineNumber, numberOr0}
+use Rattle.recordings.specs.InputRefusal.{noSystem, isNone, numberRefusal, textLineRefusal, firstOf, refusalBefore, endRefusal, inputRefusal}
 
 -- a text and a newline
 abbrev line : String → List ℕ
@@ -43,12 +43,12 @@ refusals =
     []
 
 pub worked-refusals : allPass (λ i input. eqb (inputRefusal (input .0)) (input .1)) refusals ≡ true
-unfolding inputRefusal endRefusal refusalBefore firstOf textLineRefusal numberRefusal isNone noSystem textLineNumber textLineAt numberOr0 textLineCount bytesOf columnNumber signedNumber afterBlanks wholeNumber negativeNumber isWhole areDigits isDigit placeValue outOfRange isSystem
+unfolding inputRefusal endRefusal refusalBefore firstOf textLineRefusal numberRefusal isNone noSystem textLineNumber textLineAt numberOr0 textLineCount bytesOf columnNumber signedNumber afterBlanks wholeNumber negativeNumber isWhole areDigits placeValue outOfRange isSystem
 worked-refusals = refl
 
 -- The number on a line, the line's place, and its fault. The lines of window 45,001 are 92,160,001 to 92,162,048.
-abbrev lineFaults : List (Option ℤ × ℕ × ℕ)
-lineFaults =
+abbrev textLineRefusals : List (Option ℤ × ℕ × ℕ)
+textLineRefusals =
     (none, 0, 13) ∷
     (some (pos 10), 0, 0) ∷
     (some (pos 12), 0, 0) ∷
@@ -72,6 +72,6 @@ lineFaults =
     (some (pos 500), 92162049, 0) ∷
     []
 
-pub worked-lines : allPass (λ i row. eqb (numberRefusal (row .0) (row .1)) (row .2)) lineFaults ≡ true
+pub worked-text-lines : allPass (λ i row. eqb (numberRefusal (row .0) (row .1)) (row .2)) textLineRefusals ≡ true
 unfolding numberRefusal isNone noSystem numberOr0 outOfRange isSystem
-worked-lines = refl
+worked-text-lines = refl

@@ -1,51 +1,97 @@
--- An input handed over in blocks: its first line, then the lines of one window each. What harmlist writes for the whole is what the calls write.
-use mathlib.Core.List.{List, [], _∷_, _++_}
-use mathlib.Core.Logic.{_⊎_}
-use mathlib.Core.Path.{_≡_}
-use Prim.Native.Nat.{ℕ, _≤_, _<_}
-use lib.ListN.{length}
-use Rattle.refusals.specs.Numbers.{noRefusal}
+-- What the calls answer that read an input a block at a time: `begin` takes the first line, `take_block` the lines of one window.
+-- That they follow the definition of what harmlist writes is stated in specs/Follows.antt.
+use mathlib.Core.Bool.{Bool, cond, not, _||_}
+use mathlib.Core.List.{List, [], _∷_}
+use Prim.Native.Nat.{ℕ, _*_}
+use lib.Dec.{eqb, ltb}
+use lib.IntN.{ℤ}
+use lib.ListN.{length, take, replicate}
+use Rattle.algebra.specs.Lists.{tabulate}
+use Rattle.refusals.specs.Numbers.{noRefusal, shortWindow, sampleOutOfRange, notAColumn}
+use Rattle.refusals.specs.Answers.{firstFault, unlessRefused}
+use Rattle.spectrum.specs.Line.{windowLength}
+use Rattle.spectrum.specs.Spectrum.{outOfRange}
+use Rattle.groups.specs.declared.Kind.the-variants.{HarmonicGroup, HarmonicSubgroup}
+use Rattle.rows.specs.Orders.{orderCount}
+use Rattle.observation.specs.Calls.{emptyRecord, refusedRecord, addRowAnswer}
 use Rattle.recordings.specs.declared.Reading.{Reading}
-use Rattle.recordings.specs.Lines.{textLineBytes}
-use Rattle.recordings.specs.Output.{harmlistOutput}
-use Rattle.recordings.specs.Reading.{windowBytes, beginOf, blockOf, outputOf}
+use Rattle.recordings.specs.TextLines.{textLineBytes, textLineCount, textLineAt, textLineNumber, numberOr0, numberAt}
+use Rattle.recordings.specs.InputRefusal.{isNone, textLineRefusal, firstOf}
+use Rattle.recordings.specs.Output.{systemIn, rowOf}
 
--- the blocks one after the other
-unfoldable pub joined : List (List ℕ) → List ℕ
-joined [] = []
-joined (block ∷ blocks) = block ++ joined blocks
+-- the bytes of a window's lines
+abbrev pub windowBytes : ℕ
+windowBytes = textLineBytes * windowLength
 
--- the reading after some blocks
-unfoldable pub readingAfter : Reading → List (List ℕ) → Reading
-readingAfter reading [] = reading
-readingAfter reading (block ∷ blocks) = readingAfter (blockOf reading block) blocks
+-- the reading after the first line: 13, 1, or a fresh record of its system; "a refused fresh record: system 10, zeros"
+unfoldable pub beginOf : List ℕ → Reading
+beginOf line =
+    record {
+      refusal = textLineRefusal line 0;
+      observation = unlessRefused (textLineRefusal line 0) (emptyRecord (systemIn line)) refusedRecord;
+      group = replicate orderCount 0;
+      subgroup = replicate orderCount 0;
+    }
 
--- all blocks but the last have a window's lines, and the last at most so many bytes
-unfoldable pub WholeButLast : List (List ℕ) → Type 0
-WholeButLast [] = Unit
-WholeButLast (block ∷ []) = length block ≤ windowBytes
-WholeButLast (block ∷ next ∷ blocks) = (length block ≡ windowBytes) × WholeButLast (next ∷ blocks)
+-- the checks of a sample's line: 13, then 3
+abbrev pub sampleChecks : List ℕ → List (Bool × ℕ)
+sampleChecks line =
+    (isNone (textLineNumber line), notAColumn) ∷
+    (outOfRange (numberOr0 (textLineNumber line)), sampleOutOfRange) ∷
+    []
 
--- how an input is cut: a first line and such blocks, or fewer bytes than a line and nothing more
-abbrev pub CutInBlocks : List ℕ → List (List ℕ) → Type 0
-CutInBlocks first blocks =
-    ((length first ≡ textLineBytes) × WholeButLast blocks) ⊎ ((length first < textLineBytes) × (blocks ≡ []))
+unfoldable pub sampleRefusal : List ℕ → ℕ
+sampleRefusal line = firstFault (sampleChecks line)
 
--- what the calls write for an input in blocks is what harmlist writes for it
-abbrev pub FollowsDefinition : Type 0
-FollowsDefinition =
-    (first : List ℕ) (blocks : List (List ℕ)) → CutInBlocks first blocks →
-    outputOf (readingAfter (beginOf first) blocks) ≡ harmlistOutput (first ++ joined blocks)
+-- the first refusal of the first n lines of a block, all of them samples
+unfoldable pub textLinesRefusal : List ℕ → ℕ → ℕ
+textLinesRefusal block n = firstOf (λ j. sampleRefusal (textLineAt block j)) n
 
--- a reading that is refused stays as it is, so that nothing more need be read
-abbrev pub RefusedStays : Type 0
-RefusedStays =
-    (reading : Reading) (blocks : List (List ℕ)) → (reading .refusal ≡ noRefusal → ⊥) →
-    readingAfter reading blocks ≡ reading
+-- how many lines of a block are looked at, a last one that is cut off among them: at most a window's
+unfoldable pub blockLines : List ℕ → ℕ
+blockLines block = textLineCount (take windowBytes block)
 
--- so what is written after the first blocks, where they give a refusal, is what harmlist writes for the whole input
-abbrev pub StopsAtRefusal : Type 0
-StopsAtRefusal =
-    (first : List ℕ) (blocks more : List (List ℕ)) → CutInBlocks first (blocks ++ more) →
-    (readingAfter (beginOf first) blocks .refusal ≡ noRefusal → ⊥) →
-    outputOf (readingAfter (beginOf first) blocks) ≡ harmlistOutput (first ++ joined (blocks ++ more))
+-- the checks of a block, after the refusal of its lines: 2 where the block is shorter than a window's lines
+abbrev pub blockChecks : ℕ → List ℕ → List (Bool × ℕ)
+blockChecks refusal block =
+    (not (eqb refusal noRefusal), refusal) ∷
+    (ltb (length block) windowBytes, shortWindow) ∷
+    []
+
+unfoldable pub blockRefusal : List ℕ → ℕ
+blockRefusal block = firstFault (blockChecks (textLinesRefusal block (blockLines block)) block)
+
+-- the samples of a block that is not refused
+unfoldable pub samplesOf : List ℕ → List ℤ
+samplesOf block = tabulate windowLength (numberAt block)
+
+-- a reading that is refused keeps all else
+abbrev pub refusedWith : ℕ → Reading → Reading
+refusedWith refusal reading =
+    record {
+      refusal = refusal;
+      observation = reading .observation;
+      group = reading .group;
+      subgroup = reading .subgroup;
+    }
+
+-- a whole window that is not refused: its harmonic groups are added to the record, 9 where that holds 45,000 windows
+unfoldable pub windowTaken : Reading → List ℤ → Reading
+windowTaken reading window =
+    let row = rowOf HarmonicGroup (reading .observation .system) window in
+    let added = addRowAnswer (reading .observation) row in
+    record {
+      refusal = added .refusal;
+      observation = added .observation;
+      group = row .values;
+      subgroup = rowOf HarmonicSubgroup (reading .observation .system) window .values;
+    }
+
+-- the reading after a block; a reading that is refused stays as it is, and so does any at an empty block
+unfoldable pub blockOf : Reading → List ℕ → Reading
+blockOf reading block =
+    cond (not (eqb (reading .refusal) noRefusal) || eqb (length block) 0)
+    reading
+    (unlessRefused (blockRefusal block)
+    (windowTaken reading (samplesOf block))
+    (refusedWith (blockRefusal block) reading))

@@ -6,7 +6,8 @@ use lib.Dec.{eqb}
 use lib.IntN.{ℤ, natAbs}
 use Rattle.algebra.specs.Lists.{tabulate}
 use Rattle.refusals.specs.Numbers.{noRefusal}
-use Rattle.columns.specs.Listing.{listingText, refusalLine}
+use Rattle.listing.specs.Listing.{listingText}
+use Rattle.listing.specs.RefusalLine.{refusalLine}
 use Rattle.spectrum.specs.Line.{windowLength, linesOf}
 use Rattle.groups.specs.declared.Kind.{Kind}
 use Rattle.groups.specs.declared.Kind.the-variants.{HarmonicGroup, HarmonicSubgroup}
@@ -15,8 +16,8 @@ use Rattle.rows.specs.declared.Row.{Row}
 use Rattle.observation.specs.declared.Observation.{Observation}
 use Rattle.observation.specs.Calls.{freshAnswer}
 use Rattle.observation.specs.RecordAfter.{recordAfter}
-use Rattle.recordings.specs.Lines.{textLineCount, numberAt}
-use Rattle.recordings.specs.Faults.{inputRefusal}
+use Rattle.recordings.specs.TextLines.{textLineCount, numberAt}
+use Rattle.recordings.specs.InputRefusal.{inputRefusal}
 
 -- the system, on line 0
 unfoldable pub systemIn : List ℕ → ℕ

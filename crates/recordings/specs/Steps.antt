@@ -13,10 +13,10 @@ use Rattle.columns.specs.declared.NumberAnswer.{NumberAnswer}
 use Rattle.rows.specs.Orders.{orderCount}
 use Rattle.observation.specs.declared.Observation.{Observation}
 use Rattle.recordings.specs.declared.Reading.{Reading}
-use Rattle.recordings.specs.Lines.{textLineNumber, numberOr0, numberAt}
-use Rattle.recordings.specs.Reading.{sampleRefusal, textLinesRefusal}
+use Rattle.recordings.specs.TextLines.{textLineNumber, numberOr0, numberAt}
+use Rattle.recordings.specs.Blocks.{sampleRefusal, textLinesRefusal}
 
--- the sample on a line, or the line's fault
+-- the sample on a line, or the line's refusal
 unfoldable pub sampleOn : List ℕ → NumberAnswer
 sampleOn line =
     record {
@@ -24,10 +24,10 @@ sampleOn line =
       value = unlessRefused (sampleRefusal line) (numberOr0 (textLineNumber line)) (pos 0);
     }
 
--- the samples on the first lines of a block are read to the front of a list: the answer is their first fault, and where there is none the list has them
-pub record ReadInto (block : List ℕ) (count : ℕ) (before : List ℤ) (fault : ℕ) (after : List ℤ) : Type 0 where
-  pub fault-is : fault ≡ textLinesRefusal block count
-  pub samples-are : fault ≡ noRefusal → after ≡ tabulate count (numberAt block) ++ drop count before
+-- the samples on the first lines of a block are read to the front of a list: the answer is their first refusal, and where there is none the list has them
+pub record ReadInto (block : List ℕ) (count : ℕ) (before : List ℤ) (refusal : ℕ) (after : List ℤ) : Type 0 where
+  pub refusal-is : refusal ≡ textLinesRefusal block count
+  pub samples-are : refusal ≡ noRefusal → after ≡ tabulate count (numberAt block) ++ drop count before
 
 -- the larger of the two systems
 abbrev pub largestSystem : ℕ

@@ -2,8 +2,8 @@
 use crate::LINE_BYTES;
 use crate::Reading;
 use crate::WINDOW_BYTES;
-use crate::lines::number_on_line;
-use crate::lines::read_samples;
+use crate::text_lines::number_on_line;
+use crate::text_lines::read_samples;
 use columns::COLUMN_WIDTH;
 use groups::Kind;
 use groups::group_values;
@@ -12,6 +12,7 @@ use observation::add_row;
 use observation::fresh_record;
 use refusals::NO_REFUSAL;
 use refusals::SHORT_WINDOW;
+use refusals::fault_or;
 use rows::ORDER_COUNT;
 use rows::Row;
 use spectrum::LINE_COUNT;
@@ -23,7 +24,7 @@ ghost use lib.ListN.{length};
 ghost use Rattle.algebra.specs.Lists.{anyOf};
 ghost use Rattle.spectrum.specs.Line.{windowLength};
 ghost use Rattle.spectrum.specs.Spectrum.{outOfRange};
-ghost use Rattle.recordings.specs.Reading.{beginOf, blockLines, refusedWith, windowTaken, blockOf};
+ghost use Rattle.recordings.specs.Blocks.{beginOf, blockLines, refusedWith, windowTaken, blockOf};
 ghost use Rattle.recordings.specs.Steps.{systemWord, readingOfNone};
 
 // The larger of the two systems: a number above it is none.
@@ -78,15 +79,15 @@ fn block_lines(block: &[u8]) -> usize
     (block.len() + COLUMN_WIDTH) / LINE_BYTES
 }
 
-// The reading that a fault ends.
-fn refused_with(fault: u32, reading: Reading) -> Reading
-    ensures { λ r. ⌜ r ≡ refusedWith fault reading ⌝ }
+// The reading that is refused.
+fn refused_with(refusal: u32, reading: Reading) -> Reading
+    ensures { λ r. ⌜ r ≡ refusedWith refusal reading ⌝ }
 {
     let observation = reading.observation;
     let group = reading.group;
     let subgroup = reading.subgroup;
     Reading {
-        refusal: fault,
+        refusal,
         observation,
         group,
         subgroup,
@@ -127,19 +128,18 @@ fn take_window(reading: Reading, samples: &[i32]) -> Reading
 pub fn take_block(reading: Reading, block: &[u8]) -> Reading
     ensures { λ r. ⌜ r ≡ blockOf reading (now (block .entry)) ⌝ }
 {
-    if reading.refusal != NO_REFUSAL {
-        return reading;
-    }
-    if block.len() == 0 {
+    if (reading.refusal != NO_REFUSAL) | (block.len() == 0) {
         return reading;
     }
     let mut samples = [0; WINDOW_LENGTH];
-    let fault = read_samples(block, block_lines(block), &mut samples);
-    if fault != NO_REFUSAL {
-        return refused_with(fault, reading);
-    }
-    if block.len() < WINDOW_BYTES {
-        return refused_with(SHORT_WINDOW, reading);
+    let first = read_samples(block, block_lines(block), &mut samples);
+    let refusal = fault_or(
+        first != NO_REFUSAL,
+        first,
+        fault_or(block.len() < WINDOW_BYTES, SHORT_WINDOW, NO_REFUSAL),
+    );
+    if refusal != NO_REFUSAL {
+        return refused_with(refusal, reading);
     }
     take_window(reading, &samples)
 }

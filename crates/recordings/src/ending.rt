@@ -1,48 +1,48 @@
 // The end of a reading: the listing, or only the line for a refusal.
 use crate::Reading;
-use columns::LISTING_ROOM;
-use columns::REFUSAL_LINE_LENGTH;
-use columns::fill_listing;
-use columns::fill_refusal_line;
+use listing::LISTING_ROOM;
+use listing::REFUSAL_LINE_LENGTH;
+use listing::fill_listing;
+use listing::fill_refusal_line;
 use observation::is_sound;
 use refusals::Answer;
+use refusals::LARGEST_REFUSAL;
 use refusals::NO_REFUSAL;
 use refusals::NO_WINDOW;
 use refusals::UNSOUND_RECORD;
 use refusals::WRONG_BUFFER_LENGTH;
+use refusals::fault_or;
 use rows::ORDER_COUNT;
 ghost use mathlib.Core.Bool.{true};
 ghost use mathlib.Core.Path.{_≡_};
 ghost use lib.ListN.{length};
 ghost use Rattle.refusals.specs.Answers.{answer};
-ghost use Rattle.columns.specs.Listing.{listingText};
-ghost use Rattle.columns.specs.Calls.{listingRefusal, listingExit};
+ghost use Rattle.listing.specs.Listing.{listingText, listingRefusal, listingExit};
 ghost use Rattle.observation.specs.Soundness.{noneAbove, isSound};
 ghost use Rattle.rows.specs.Rows.{largestValue};
-ghost use Rattle.recordings.specs.Reading.{finishRefusal, outputOf, outputExit};
+ghost use Rattle.recordings.specs.Ending.{finishRefusal, outputOf, outputExit};
 
 // The refusal at the end: that of the reading, 7 for a reading that no call gave, 10 where no
 // window came.
-fn finish_fault(reading: Reading) -> u32
+fn finish_refusal(reading: Reading) -> u32
     ensures { λ r. ⌜ r ≡ finishRefusal reading ⌝ }
 {
     let refusal = reading.refusal;
     let observation = reading.observation;
     let windows = observation.windows;
-    let sound = is_sound(observation);
-    if WRONG_BUFFER_LENGTH < refusal {
-        return UNSOUND_RECORD;
-    }
-    if refusal != NO_REFUSAL {
-        return refusal;
-    }
-    if !sound {
-        return UNSOUND_RECORD;
-    }
-    if windows == 0 {
-        return NO_WINDOW;
-    }
-    NO_REFUSAL
+    fault_or(
+        LARGEST_REFUSAL < refusal,
+        UNSOUND_RECORD,
+        fault_or(
+            refusal != NO_REFUSAL,
+            refusal,
+            fault_or(
+                !is_sound(observation),
+                UNSOUND_RECORD,
+                fault_or(windows == 0, NO_WINDOW, NO_REFUSAL),
+            ),
+        ),
+    )
 }
 
 // The values, which fit 32 bits, in 32 bits each.
@@ -85,11 +85,11 @@ pub fn finish(reading: Reading, output: &mut [u8]) -> Answer
             value: 0,
         };
     }
-    let fault = finish_fault(reading);
-    if fault == NO_REFUSAL {
+    let refusal = finish_refusal(reading);
+    if refusal == NO_REFUSAL {
         return put_listing(reading, output);
     }
-    fill_refusal_line(fault, &mut output[..REFUSAL_LINE_LENGTH]);
+    fill_refusal_line(refusal, &mut output[..REFUSAL_LINE_LENGTH]);
     Answer {
         refusal: NO_REFUSAL,
         value: REFUSAL_LINE_LENGTH as u64,

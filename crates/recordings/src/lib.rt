@@ -2,10 +2,10 @@
 // A reading goes in by value and comes back by value. The caller lends the bytes of the input: the
 // first line to `begin`, then the lines of one window at a time to `take_block`, and `finish`
 // writes what harmlist writes. That this is document 01's output of the whole input is stated in
-// specs/Blocks.antt and proved in proofs/.
+// specs/Follows.antt and proved in proofs/.
 mod blocks;
 mod ending;
-mod lines;
+mod text_lines;
 
 pub use blocks::begin;
 pub use blocks::take_block;

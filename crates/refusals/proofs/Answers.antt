@@ -2,11 +2,11 @@
 use mathlib.Core.Path.{_≡_, refl, sym}
 use mathlib.Core.Bool.{Bool, true, false, cond, _&&_}
 use mathlib.Core.List.{List, [], _∷_}
-use Prim.Native.Nat.{ℕ, _<_}
+use Prim.Native.Nat.{ℕ, _<_, _≤_}
 use native.Mathlib.Omega.{arith}
-use borrow.Author.Tests.{eq-eqb, ne-eqb, eqb-true, ltb-true}
-use lib.Dec.{eqb, ltb}
-use Rattle.refusals.specs.Numbers.{noRefusal}
+use borrow.Author.Tests.{eq-eqb, ne-eqb, eqb-true, ltb-true, leb-true}
+use lib.Dec.{eqb, leb, ltb}
+use Rattle.refusals.specs.Numbers.{noRefusal, largestRefusal}
 use Rattle.refusals.specs.Answers.{firstFault, unlessRefused, answer}
 
 -- the first check of a row finds no fault, and neither do those after it
@@ -37,6 +37,24 @@ no-faults ((fault, own) ∷ checks) positive e number = by-number (ltb 0 own) re
     by-number true p rest later =
         let passed = no-fault fault own (firstFault checks) (ltb-true 0 own p) e in
         by-test (eqb own number) (passed .0) (later rest (passed .1))
+    by-number false p rest later = absurd (mathlib.Core.Bool.true≢false (sym rest))
+
+-- the numbers of a row of checks are document 01's; computed
+abbrev pub known : List (Bool × ℕ) → Bool
+known [] = true
+known (check ∷ checks) = cond (leb (check .1) largestRefusal) (known checks) false
+
+-- so a row of checks answers no larger number
+pub firstFault-le : (checks : List (Bool × ℕ)) → known checks ≡ true → firstFault checks ≤ largestRefusal
+firstFault-le [] all = omega arith
+firstFault-le ((fault, own) ∷ checks) all = by-number (leb own largestRefusal) refl all (firstFault-le checks)
+  where
+    by-fault : (there : Bool) → own ≤ largestRefusal → firstFault checks ≤ largestRefusal → cond there own (firstFault checks) ≤ largestRefusal
+    by-fault true here later = here
+    by-fault false here later = later
+
+    by-number : (small : Bool) → leb own largestRefusal ≡ small → cond small (known checks) false ≡ true → (known checks ≡ true → firstFault checks ≤ largestRefusal) → cond fault own (firstFault checks) ≤ largestRefusal
+    by-number true p rest later = by-fault fault (leb-true own largestRefusal p) (later rest)
     by-number false p rest later = absurd (mathlib.Core.Bool.true≢false (sym rest))
 
 -- what stands after a call that is accepted, and after one that is refused

@@ -14,9 +14,6 @@ abbrev μ-loop : tie.MeasureT-loop
 loop-holds : tie.Need-loop-holds Inv-loop μ-loop
 loop-holds c = begins _
 
-read-block-requires : tie.Need-read-block-requires Inv-loop μ-loop
-read-block-requires c κs = search needs
-
 returns : tie.Need-returns Inv-loop μ-loop
 returns c =
     let read = c .before .before .read-block in
@@ -46,7 +43,7 @@ read-blocks-spec =
     Inv-loop
     μ-loop
     loop-holds
-    read-block-requires
+    (λ c κs. search needs)
     returns
     loop-less
     loop-again

@@ -5,16 +5,10 @@ use Rattle.harmlist.proofs.Blocks.{one-holds, first-fails, line-ends, t
 use Rattle.harmlist.proofs.read_input.Statement.{statement}
 use Rattle.harmlist.proofs.read_input.Tie as tie
 
-read-line-requires : tie.Need-read-line-requires
-read-line-requires c κs = search needs
-
 returns : tie.Need-returns
 returns c =
     let line = c .before .before .read-line in
     line-ends (line .result) (line .ensures) (inr (one-holds (line .result .short) (line .result .failed) (c .if1 .taken)))
-
-read-blocks-requires : tie.Need-read-blocks-requires
-read-blocks-requires c κs = search needs
 
 returns-2 : tie.Need-returns-2
 returns-2 c =
@@ -24,4 +18,4 @@ returns-2 c =
     (c .read-blocks .ensures)
 
 pub read-input-spec : {M : Type 1} → statement M
-read-input-spec = tie.close (tie.spec read-line-requires returns read-blocks-requires returns-2)
+read-input-spec = tie.close (tie.spec (λ c κs. search needs) returns (λ c κs. search needs) returns-2)

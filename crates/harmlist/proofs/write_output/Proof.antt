@@ -4,7 +4,7 @@ use Prim.Native.Nat.{_≤_}
 use borrow.Author.Needs.{needs}
 use lib.ListN.{length}
 use lib.Seq.{length-take-le}
-use Rattle.recordings.proofs.Written.{written-count-le}
+use Rattle.recordings.proofs.EndingLaws.{written-count-le}
 use Rattle.harmlist.proofs.write_output.Statement.{statement}
 use Rattle.harmlist.proofs.write_output.Tie as tie
 
@@ -12,12 +12,6 @@ count-le : (c : tie.After-finish) → c .finish .result .value ≤ length (c .fi
 count-le c =
     rw (c .finish .kept .1 .0)
     (written-count-le _ _ _ (c .finish .result) (c .finish .ensures .0) (c .finish .ensures .1) (c .finish .kept .1 .0))
-
-slice-aggregate-finish : tie.Need-slice-aggregate-finish
-slice-aggregate-finish c = search needs
-
-finish-requires : tie.Need-finish-requires
-finish-requires c κs = search needs
 
 array-share-prefix-output : tie.Need-array-share-prefix-output
 array-share-prefix-output c = count-le (c .before)
@@ -27,31 +21,16 @@ slice-aggregate-write-all c =
     let finished = c .before .before in
     sym (length-take-le (finished .finish .result .value) (finished .finish .last .1 .0) (count-le finished))
 
-write-all-requires : tie.Need-write-all-requires
-write-all-requires c κs = search needs
-
-slice-aggregate-fail : tie.Need-slice-aggregate-fail
-slice-aggregate-fail c = search needs
-
-fail-requires : tie.Need-fail-requires
-fail-requires c κs = search needs
-
-returns : tie.Need-returns
-returns c = search needs
-
-returns-2 : tie.Need-returns-2
-returns-2 c = search needs
-
 pub write-output-spec : {M : Type 1} → statement M
 write-output-spec =
     tie.close
     (tie.spec
-    slice-aggregate-finish
-    finish-requires
+    (λ c. search needs)
+    (λ c κs. search needs)
     array-share-prefix-output
     slice-aggregate-write-all
-    write-all-requires
-    slice-aggregate-fail
-    fail-requires
-    returns
-    returns-2)
+    (λ c κs. search needs)
+    (λ c. search needs)
+    (λ c κs. search needs)
+    (λ c. search needs)
+    (λ c. search needs))

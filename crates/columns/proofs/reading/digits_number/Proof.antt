@@ -10,16 +10,10 @@ use Rattle.columns.specs.Calls.{readingOf}
 use Rattle.columns.specs.Column.{isWhole}
 use Rattle.columns.proofs.Bytewise.{digits-of-whole, value-fits}
 use Rattle.columns.proofs.Readings.{no-digits, whole-is, no-negative-zero, negative-is}
-use Rattle.columns.proofs.Signed.{toZ-pos, sub-eq-neg, neg-fits}
+use Rattle.algebra.proofs.Signed64.{toZ-pos, sub-eq-neg, neg-fits}
 use borrow.Author.Needs.{needs}
 use Rattle.columns.proofs.reading.digits_number.Statement.{statement}
 use Rattle.columns.proofs.reading.digits_number.Tie as tie
-
-is-whole-requires : tie.Need-is-whole-requires
-is-whole-requires c κs = search needs
-
-refused-requires : tie.Need-refused-requires
-refused-requires c κs = search needs
 
 returns : tie.Need-returns
 returns c =
@@ -45,9 +39,6 @@ place-value-requires c κs =
 cast-number : tie.Need-cast-number
 cast-number c = record { sfits = value-lt (c .before) }
 
-number-requires : tie.Need-number-requires
-number-requires c κs = search needs
-
 returns-2 : tie.Need-returns-2
 returns-2 c =
     let read = c .before .before in
@@ -56,9 +47,6 @@ returns-2 c =
     let number = whole-is (start .args .text .now) (whole (read .before)) in
     let value = toZ-pos _ (value-lt read) ∙ ap pos (read .place-value .ensures) in
     c .number .ensures ∙ rw (plain, number, value)
-
-refused-requires-2 : tie.Need-refused-requires-2
-refused-requires-2 c κs = search needs
 
 returns-3 : tie.Need-returns-3
 returns-3 c =
@@ -76,9 +64,6 @@ sub-number c =
     let read = c .before .before in
     rw (sub-eq-neg _ (value-lt read)) (neg-fits _ (value-lt read))
 
-number-requires-2 : tie.Need-number-requires-2
-number-requires-2 c κs = search needs
-
 returns-4 : tie.Need-returns-4
 returns-4 c =
     let read = c .before .before .before in
@@ -93,16 +78,16 @@ pub digits-number-spec : {M : Type 1} → statement M
 digits-number-spec =
     tie.close
     (tie.spec
-    is-whole-requires
-    refused-requires
+    (λ c κs. search needs)
+    (λ c κs. search needs)
     returns
     place-value-requires
     cast-number
-    number-requires
+    (λ c κs. search needs)
     returns-2
-    refused-requires-2
+    (λ c κs. search needs)
     returns-3
     cast-number-2
     sub-number
-    number-requires-2
+    (λ c κs. search needs)
     returns-4)

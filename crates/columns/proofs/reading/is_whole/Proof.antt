@@ -12,19 +12,10 @@ use Rattle.columns.proofs.reading.is_whole.Tie as tie
 returns : tie.Need-returns
 returns c = sym (whole-of-none (c .before .before .args .text .now) (c .if1 .taken))
 
-shared-slice-read-is-digit : tie.Need-shared-slice-read-is-digit
-shared-slice-read-is-digit c = search needs
-
-is-digit-requires : tie.Need-is-digit-requires
-is-digit-requires c κs = search needs
-
 returns-2 : tie.Need-returns-2
 returns-2 c =
     let text = c .before .before .before .before .before .args .text .now in
     c .is-digit .ensures ∙ sym (whole-of-one text (omega arith))
-
-shared-slice-read-if3 : tie.Need-shared-slice-read-if3
-shared-slice-read-if3 c = search needs
 
 returns-3 : tie.Need-returns-3
 returns-3 c =
@@ -32,9 +23,6 @@ returns-3 c =
     let zero-first = eq-eqb (getD text 0 0) digitZero (c .if3 .taken) in
     let several = whole-of-several text (omega arith) in
     sym (several ∙ rw zero-first)
-
-are-digits-requires : tie.Need-are-digits-requires
-are-digits-requires c κs = search needs
 
 returns-4 : tie.Need-returns-4
 returns-4 c =
@@ -48,10 +36,10 @@ is-whole-spec =
     tie.close
     (tie.spec
     returns
-    shared-slice-read-is-digit
-    is-digit-requires
+    (λ c. search needs)
+    (λ c κs. search needs)
     returns-2
-    shared-slice-read-if3
+    (λ c. search needs)
     returns-3
-    are-digits-requires
+    (λ c κs. search needs)
     returns-4)

@@ -31,9 +31,6 @@ next-lt c =
 mul-value : tie.Need-mul-value Inv-loop μ-loop
 mul-value c = omega (arith, next-lt c)
 
-shared-slice-read-value : tie.Need-shared-slice-read-value Inv-loop μ-loop
-shared-slice-read-value c = omega arith
-
 sub-value : tie.Need-sub-value Inv-loop μ-loop
 sub-value c =
     let l = c .before .before .loop in
@@ -44,12 +41,6 @@ cast-value c = omega (arith, c .shared-slice-known .given (c .before .before .lo
 
 add-value : tie.Need-add-value Inv-loop μ-loop
 add-value c = omega (arith, next-lt (c .before))
-
-add-at : tie.Need-add-at Inv-loop μ-loop
-add-at c = omega arith
-
-loop-less : tie.Need-loop-less Inv-loop μ-loop
-loop-less c = omega arith
 
 loop-again : tie.Need-loop-again Inv-loop μ-loop
 loop-again c =
@@ -72,11 +63,11 @@ place-value-spec =
     μ-loop
     loop-holds
     mul-value
-    shared-slice-read-value
+    (λ c. omega arith)
     sub-value
     cast-value
     add-value
-    add-at
-    loop-less
+    (λ c. omega arith)
+    (λ c. omega arith)
     loop-again
     returns)

@@ -11,36 +11,15 @@ use borrow.Author.Needs.{needs}
 use Rattle.columns.proofs.reading.signed_number.Statement.{statement}
 use Rattle.columns.proofs.reading.signed_number.Tie as tie
 
-refused-requires : tie.Need-refused-requires
-refused-requires c κs = search needs
-
 returns : tie.Need-returns
 returns c =
     c .refused .ensures ∙ ap readingOf (sym (signed-of-none (c .before .before .before .args .text .now) (c .before .if1 .taken)))
-
-shared-slice-read-if2 : tie.Need-shared-slice-read-if2
-shared-slice-read-if2 c = search needs
-
-sub-digits-number : tie.Need-sub-digits-number
-sub-digits-number c = search needs
-
-part-digits-number-start : tie.Need-part-digits-number-start
-part-digits-number-start c = search needs
-
-part-digits-number-end : tie.Need-part-digits-number-end
-part-digits-number-end c = search needs
-
-digits-number-requires : tie.Need-digits-number-requires
-digits-number-requires c κs = search needs
 
 returns-2 : tie.Need-returns-2
 returns-2 c =
     let text = c .before .before .before .before .before .before .args .text .now in
     let first = eq-eqb (getD text 0 0) minus (c .before .before .if2 .taken) in
     c .digits-number .ensures ∙ rw (part-to-end text 1, signed-of-some text (omega arith), first)
-
-digits-number-requires-2 : tie.Need-digits-number-requires-2
-digits-number-requires-2 c κs = search needs
 
 returns-3 : tie.Need-returns-3
 returns-3 c =
@@ -52,13 +31,13 @@ pub signed-number-spec : {M : Type 1} → statement M
 signed-number-spec =
     tie.close
     (tie.spec
-    refused-requires
+    (λ c κs. search needs)
     returns
-    shared-slice-read-if2
-    sub-digits-number
-    part-digits-number-start
-    part-digits-number-end
-    digits-number-requires
+    (λ c. search needs)
+    (λ c. search needs)
+    (λ c. search needs)
+    (λ c. search needs)
+    (λ c κs. search needs)
     returns-2
-    digits-number-requires-2
+    (λ c κs. search needs)
     returns-3)

@@ -8,7 +8,7 @@ use lib.Signed.{mag, ltZ}
 use mir.Facts.{toZ-ofZ}
 use mir.Syntax.{w64}
 use mir.Val.{toZ, ofZ}
-use Rattle.columns.proofs.Signed.{toZ-pos, minus-one-sub, abs-of-negative, abs-of-positive, abs-le, below-zero}
+use Rattle.algebra.proofs.Signed64.{toZ-pos, minus-one-sub, abs-of-negative, abs-of-positive, abs-le, below-zero}
 use borrow.Author.Needs.{needs}
 use Rattle.columns.proofs.writing.magnitude.Statement.{statement}
 use Rattle.columns.proofs.writing.magnitude.Tie as tie
@@ -45,9 +45,6 @@ cast-result-2 c =
     let same = toZ-ofZ (c .before .fits .number) ∙ abs-of-positive number positive in
     rw same (tt, record { fits = omega (arith, abs-le (c .before .fits .number)) })
 
-returns-2 : tie.Need-returns-2
-returns-2 c = search needs
-
 pub magnitude-spec : {M : Type 1} → statement M
 magnitude-spec =
-    tie.close (tie.spec sub-result cast-result add-result returns cast-result-2 returns-2)
+    tie.close (tie.spec sub-result cast-result add-result returns cast-result-2 (λ c. search needs))

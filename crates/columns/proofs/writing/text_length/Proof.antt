@@ -8,16 +8,11 @@ use lib.ListN.{length}
 use mir.Facts.{toZ-ofZ}
 use Rattle.columns.specs.Column.{decimalText}
 use Rattle.columns.proofs.Decimal.{length-le}
-use Rattle.columns.proofs.Signed.{abs-le, below-zero, text-of-negative, text-of-positive}
+use Rattle.algebra.proofs.Signed64.{abs-le, below-zero}
+use Rattle.columns.proofs.NumberText.{numberText-negative, numberText-positive}
 use borrow.Author.Needs.{needs}
 use Rattle.columns.proofs.writing.text_length.Statement.{statement}
 use Rattle.columns.proofs.writing.text_length.Tie as tie
-
-magnitude-requires : tie.Need-magnitude-requires
-magnitude-requires c κs = search needs
-
-digit-count-requires : tie.Need-digit-count-requires
-digit-count-requires c κs = search needs
 
 digits : (c : tie.After-digit-count) → c .digit-count .result ≡ length (decimalText (natAbs (c .before .before .args .number)))
 digits c =
@@ -35,16 +30,16 @@ returns : tie.Need-returns
 returns c =
     let start = c .before .before .before in
     let number = start .args .number in
-    let text = text-of-negative number (below-zero true (start .fits .number) (c .if1 .taken)) in
+    let text = numberText-negative number (below-zero true (start .fits .number) (c .if1 .taken)) in
     rw text (omega (arith, digits (c .before)))
 
 returns-2 : tie.Need-returns-2
 returns-2 c =
     let start = c .before .before .before in
     let number = start .args .number in
-    let text = text-of-positive number (below-zero false (start .fits .number) (c .if1 .left)) in
+    let text = numberText-positive number (below-zero false (start .fits .number) (c .if1 .left)) in
     rw text (digits (c .before))
 
 pub text-length-spec : {M : Type 1} → statement M
 text-length-spec =
-    tie.close (tie.spec magnitude-requires digit-count-requires add-result returns returns-2)
+    tie.close (tie.spec (λ c κs. search needs) (λ c κs. search needs) add-result returns returns-2)

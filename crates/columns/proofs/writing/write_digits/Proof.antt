@@ -29,14 +29,8 @@ loop-holds c =
 sub-at : tie.Need-sub-at Inv-loop μ-loop
 sub-at c = omega (arith, length-above (c .before .loop .rest) (omega arith))
 
-digit-byte-requires : tie.Need-digit-byte-requires Inv-loop μ-loop
-digit-byte-requires c κs = omega arith
-
 slice-write-buffer : tie.Need-slice-write-buffer Inv-loop μ-loop
 slice-write-buffer c = omega (arith, length-above (c .before .before .loop .rest) (omega arith))
-
-loop-less : tie.Need-loop-less Inv-loop μ-loop
-loop-less c = omega arith
 
 loop-again : tie.Need-loop-again Inv-loop μ-loop
 loop-again c =
@@ -45,9 +39,6 @@ loop-again c =
     let shorter = length-above (l .rest) several in
     let stored = digit-stored (l .buffer) (l .rest) (l .at) several (l .inv .1) (l .inv .2) in
     (simp length-set (l .inv .0), omega arith, simp length-set (omega arith), rw (c .digit-byte .ensures) (stored ∙ l .inv .3))
-
-digit-byte-requires-2 : tie.Need-digit-byte-requires-2 Inv-loop μ-loop
-digit-byte-requires-2 c κs = omega arith
 
 slice-write-buffer-2 : tie.Need-slice-write-buffer-2 Inv-loop μ-loop
 slice-write-buffer-2 c = omega (arith, length-below (c .before .before .loop .rest) (omega arith))
@@ -70,11 +61,11 @@ write-digits-spec =
     μ-loop
     loop-holds
     sub-at
-    digit-byte-requires
+    (λ c κs. omega arith)
     slice-write-buffer
-    loop-less
+    (λ c. omega arith)
     loop-again
-    digit-byte-requires-2
+    (λ c κs. omega arith)
     slice-write-buffer-2
     same-length
     returns)

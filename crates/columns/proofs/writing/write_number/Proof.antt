@@ -11,7 +11,8 @@ use mir.Facts.{toZ-ofZ}
 use Rattle.columns.specs.Text.{minus}
 use Rattle.columns.specs.Column.{decimalText, numberText}
 use Rattle.columns.proofs.Parts.{length-part-to-end, put-to-end}
-use Rattle.columns.proofs.Signed.{below-zero, text-of-negative, text-of-positive}
+use Rattle.algebra.proofs.Signed64.{below-zero}
+use Rattle.columns.proofs.NumberText.{numberText-negative, numberText-positive}
 use borrow.Author.Needs.{needs}
 use Rattle.columns.proofs.writing.write_number.Statement.{statement}
 use Rattle.columns.proofs.writing.write_number.Tie as tie
@@ -19,12 +20,12 @@ use Rattle.columns.proofs.writing.write_number.Tie as tie
 negative-text : (c : tie.Then1) → numberText (c .before .before .args .number) ≡ minus ∷ decimalText (natAbs (c .before .before .args .number))
 negative-text c =
     let start = c .before .before in
-    text-of-negative (start .args .number) (below-zero true (start .fits .number) (c .if1 .taken))
+    numberText-negative (start .args .number) (below-zero true (start .fits .number) (c .if1 .taken))
 
 positive-text : (c : tie.Else1) → numberText (c .before .before .args .number) ≡ decimalText (natAbs (c .before .before .args .number))
 positive-text c =
     let start = c .before .before in
-    text-of-positive (start .args .number) (below-zero false (start .fits .number) (c .if1 .left))
+    numberText-positive (start .args .number) (below-zero false (start .fits .number) (c .if1 .left))
 
 length-negative : (c : tie.Then1) → length (c .before .before .args .buffer .now) ≡ suc (length (decimalText (natAbs (c .before .before .args .number))))
 length-negative c = c .before .before .pre ∙ ap length (negative-text c)
@@ -37,12 +38,6 @@ sub-write-digits c = simp length-set (omega (arith, length-negative c))
 
 part-write-digits-start : tie.Need-part-write-digits-start
 part-write-digits-start c = simp length-set (omega (arith, length-negative c))
-
-part-write-digits-end : tie.Need-part-write-digits-end
-part-write-digits-end c = search needs
-
-magnitude-requires : tie.Need-magnitude-requires
-magnitude-requires c κs = search needs
 
 write-digits-requires : tie.Need-write-digits-requires
 write-digits-requires c κs =
@@ -65,17 +60,11 @@ returns c =
 same-length : tie.Need-same-length
 same-length c = ap length (returns c) ∙ sym (c .before .before .before .before .before .before .before .pre)
 
-magnitude-requires-2 : tie.Need-magnitude-requires-2
-magnitude-requires-2 c κs = search needs
-
 write-digits-requires-2 : tie.Need-write-digits-requires-2
 write-digits-requires-2 c κs =
     let start = c .before .before .before .before in
     let same = c .magnitude2 .ensures ∙ ap natAbs (toZ-ofZ (start .fits .number)) in
     start .pre ∙ rw (positive-text (c .before .before), same)
-
-same-length-2 : tie.Need-same-length-2
-same-length-2 c = search needs
 
 returns-2 : tie.Need-returns-2
 returns-2 c =
@@ -90,12 +79,12 @@ write-number-spec =
     slice-write-buffer
     sub-write-digits
     part-write-digits-start
-    part-write-digits-end
-    magnitude-requires
+    (λ c. search needs)
+    (λ c κs. search needs)
     write-digits-requires
     same-length
     returns
-    magnitude-requires-2
+    (λ c κs. search needs)
     write-digits-requires-2
-    same-length-2
+    (λ c. search needs)
     returns-2)

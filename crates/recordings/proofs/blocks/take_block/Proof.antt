@@ -1,113 +1,89 @@
--- `recordings::blocks::take_block` meets its contract, by a law for each way.
+-- `recordings::blocks::take_block` meets its contract.
 use mathlib.Core.Path.{_≡_, refl, sym, ap, _∙_}
-use Prim.Native.Nat.{ℕ}
 use borrow.Author.Needs.{needs}
 use lib.IntN.{pos}
 use lib.ListN.{replicate}
 use Rattle.algebra.proofs.Lists.{filled-tabulate}
 use Rattle.refusals.specs.Numbers.{noRefusal}
+use Rattle.refusals.proofs.Answers.{unlessRefused-accepted, unlessRefused-refused}
 use Rattle.spectrum.specs.Line.{windowLength}
-use Rattle.recordings.specs.Lines.{numberAt}
-use Rattle.recordings.specs.Reading.{textLinesRefusal, blockLines, samplesOf, refusedWith, windowTaken}
-use Rattle.recordings.proofs.Samples.{length-samples, samples-in-range}
-use Rattle.recordings.proofs.BlockLaws.{lines-of-whole, block-lines-fit, block-of-refused, block-of-none, block-of-fault, block-of-short, block-of-whole}
+use Rattle.recordings.specs.TextLines.{numberAt}
+use Rattle.recordings.specs.Blocks.{textLinesRefusal, blockRefusal, samplesOf, windowTaken, blockOf}
+use Rattle.recordings.proofs.Samples.{samplesOf-length, samplesOf-in-range}
+use Rattle.recordings.proofs.BlockLaws.{blockLines-whole, blockLines-fit, blockRefusal-none}
 use Rattle.recordings.proofs.blocks.take_block.Statement.{statement}
 use Rattle.recordings.proofs.blocks.take_block.Tie as tie
 
 returns : tie.Need-returns
-returns c =
-    let a = c .before .before .before .args in
-    sym (block-of-refused (a .reading) (a .block .now) (c .if1 .taken))
-
-returns-2 : tie.Need-returns-2
-returns-2 c =
-    let a = c .before .before .before .before .args in
-    sym (block-of-none (a .reading) (a .block .now) (c .before .if1 .left) (c .if2 .taken))
-
-block-lines-requires : tie.Need-block-lines-requires
-block-lines-requires c κs = search needs
-
-slice-aggregate-read-samples : tie.Need-slice-aggregate-read-samples
-slice-aggregate-read-samples c = search needs
+unfolding blockOf
+returns c = rw (c .if1 .taken)
 
 read-samples-requires : tie.Need-read-samples-requires
 read-samples-requires c κs =
-    rw (c .before .block-lines .ensures) (block-lines-fit (c .before .before .before .before .before .before .args .block .now))
+    rw (c .before .block-lines .ensures) (blockLines-fit (c .before .before .before .before .before .args .block .now))
 
--- the answer of the reader is the fault of the block's lines
-fault-is : (c : tie.After-read-samples) → c .read-samples .result ≡ textLinesRefusal (c .before .before .before .before .before .before .before .args .block .now) (blockLines (c .before .before .before .before .before .before .before .args .block .now))
-fault-is c =
-    c .read-samples .ensures .fault-is ∙ ap (textLinesRefusal (c .before .before .before .before .before .before .before .args .block .now)) (c .before .before .block-lines .ensures)
+-- the start, at the place where the refusal is decided
+abbrev start : tie.After-fault-or2 → tie.Start
+start c = c .before .before .before .before .before .before .before .before .before
 
-refused-with-requires : tie.Need-refused-with-requires
-refused-with-requires c κs = search needs
-
-returns-3 : tie.Need-returns-3
-returns-3 c =
+refusal-is : (c : tie.After-fault-or2) → c .fault-or2 .result ≡ blockRefusal (start c .args .block .now)
+unfolding blockRefusal
+refusal-is c =
     let read = c .before .before .before in
-    let branch = read .before .before .before in
-    let a = read .before .before .before .before .before .before .before .args in
-    let fault = fault-is read in
+    let first = read .read-samples .ensures .refusal-is ∙ ap (textLinesRefusal (start c .args .block .now)) (read .before .before .block-lines .ensures) in
+    cc (c .fault-or2 .ensures, c .before .fault-or .ensures)
+
+returns-2 : tie.Need-returns-2
+unfolding blockOf
+returns-2 c =
+    let at = c .before .before in
     c .refused-with .ensures
-    ∙ ap (λ (f : ℕ). refusedWith f (a .reading)) fault
-    ∙ sym (block-of-fault (a .reading) (a .block .now) (branch .before .if1 .left) (branch .if2 .left) (λ z. c .before .if3 .taken (fault ∙ z)))
+    ∙ rw (at .before .before .before .before .before .before .if1 .left, refusal-is at)
+    (sym (unlessRefused-refused (blockRefusal (start at .args .block .now)) _ _ (λ e. c .before .if2 .taken (refusal-is at ∙ e))))
 
-refused-with-requires-2 : tie.Need-refused-with-requires-2
-refused-with-requires-2 c κs = search needs
+-- a block that is not refused: the samples read are the block's
+accepted : (c : tie.Else2) → blockRefusal (start (c .before) .args .block .now) ≡ noRefusal
+accepted c = sym (refusal-is (c .before)) ∙ c .if2 .left
 
-returns-4 : tie.Need-returns-4
-returns-4 c =
-    let read = c .before .before .before .before in
-    let branch = read .before .before .before in
-    let a = read .before .before .before .before .before .before .before .args in
-    c .refused-with2 .ensures
-    ∙ sym (block-of-short (a .reading) (a .block .now) (branch .before .if1 .left) (branch .if2 .left) (sym (fault-is read) ∙ c .before .before .if3 .left) (c .before .if4 .taken))
-
--- a whole block without a fault: the samples read are the block's
-samples-are : (c : tie.Else4) → c .before .before .before .read-samples .last .1 .1 .0 ≡ samplesOf (c .before .before .before .before .before .before .before .before .before .before .args .block .now)
+samples-are : (c : tie.Else2) → c .before .before .before .before .read-samples .last .1 .1 .0 ≡ samplesOf (start (c .before) .args .block .now)
 unfolding samplesOf
 samples-are c =
-    let read = c .before .before .before in
-    let block = c .before .before .before .before .before .before .before .before .before .before .args .block .now in
-    let count : c .before .before .before .before .before .block-lines .result ≡ windowLength = c .before .before .before .before .before .block-lines .ensures ∙ lines-of-whole block (c .if4 .left) in
-    rw count at (read .read-samples .ensures .samples-are (c .before .if3 .left))
+    let read = c .before .before .before .before in
+    let block = start (c .before) .args .block .now in
+    let passed = blockRefusal-none block (accepted c) in
+    let lines = read .before .before .block-lines .ensures in
+    let none = read .read-samples .ensures .refusal-is ∙ ap (textLinesRefusal block) lines ∙ passed .0 in
+    rw (lines ∙ blockLines-whole block (passed .1)) at (read .read-samples .ensures .samples-are none)
     ∙ filled-tabulate windowLength (numberAt block) (replicate windowLength (pos 0)) refl
-
-no-fault : (c : tie.Else4) → textLinesRefusal (c .before .before .before .before .before .before .before .before .before .before .args .block .now) (blockLines (c .before .before .before .before .before .before .before .before .before .before .args .block .now)) ≡ noRefusal
-no-fault c = sym (fault-is (c .before .before .before)) ∙ c .before .if3 .left
-
-slice-aggregate-take-window : tie.Need-slice-aggregate-take-window
-slice-aggregate-take-window c = search needs
 
 take-window-requires : tie.Need-take-window-requires
 take-window-requires c κs =
-    let whole = c .before in
-    let block = whole .before .before .before .before .before .before .before .before .before .before .args .block .now in
-    rw (samples-are whole)
-    (length-samples block, samples-in-range block (rw (lines-of-whole block (whole .if4 .left)) at (no-fault whole)))
+    let block = start (c .before .before) .args .block .now in
+    let passed = blockRefusal-none block (accepted (c .before)) in
+    rw (samples-are (c .before))
+    (samplesOf-length block, samplesOf-in-range block (rw (blockLines-whole block (passed .1)) at (passed .0)))
 
-returns-5 : tie.Need-returns-5
-returns-5 c =
-    let whole = c .before .before in
-    let branch = whole .before .before .before .before .before .before in
-    let a = whole .before .before .before .before .before .before .before .before .before .before .args in
+returns-3 : tie.Need-returns-3
+unfolding blockOf
+returns-3 c =
+    let at = c .before .before .before in
     c .take-window .ensures
-    ∙ ap (windowTaken (a .reading)) (samples-are whole)
-    ∙ sym (block-of-whole (a .reading) (a .block .now) (branch .before .if1 .left) (branch .if2 .left) (no-fault whole) (whole .if4 .left))
+    ∙ ap (windowTaken (start at .args .reading)) (samples-are (c .before .before))
+    ∙ rw (at .before .before .before .before .before .before .if1 .left)
+    (sym (unlessRefused-accepted (blockRefusal (start at .args .block .now)) _ _ (accepted (c .before .before))))
 
 pub take-block-spec : {M : Type 1} → statement M
 take-block-spec =
     tie.close
     (tie.spec
     returns
-    returns-2
-    block-lines-requires
-    slice-aggregate-read-samples
+    (λ c κs. search needs)
+    (λ c. search needs)
     read-samples-requires
-    refused-with-requires
-    returns-3
-    refused-with-requires-2
-    returns-4
-    slice-aggregate-take-window
+    (λ c κs. search needs)
+    (λ c κs. search needs)
+    (λ c κs. search needs)
+    returns-2
+    (λ c. search needs)
     take-window-requires
-    returns-5)
+    returns-3)

@@ -4,9 +4,9 @@ use native.Mathlib.Omega.{arith}
 use borrow.Author.Needs.{needs}
 use lib.ListN.{take}
 use lib.Seq.{length-take-le}
-use Rattle.columns.specs.Listing.{refusalLineLength}
-use Rattle.columns.specs.Calls.{refusalLineExit}
-use Rattle.recordings.proofs.Written.{refusal-line-written, finish-fault-le, sound-of-finish, written-not, written-refusal, answer-listing, written-listing}
+use Rattle.listing.specs.RefusalLine.{refusalLineLength, refusalLineExit}
+use Rattle.listing.proofs.RefusalLine.{refusalLineExit-accepted}
+use Rattle.recordings.proofs.EndingLaws.{finishRefusal-le, finishRefusal-sound, written-not, written-refusal, answer-listing, written-listing}
 use Rattle.recordings.proofs.ending.finish.Statement.{statement}
 use Rattle.recordings.proofs.ending.finish.Tie as tie
 
@@ -15,57 +15,42 @@ returns c =
     let a = c .before .before .args in
     written-not (a .reading) (a .output .now) (c .if1 .taken)
 
-finish-fault-requires : tie.Need-finish-fault-requires
-finish-fault-requires c κs = search needs
-
 put-listing-requires : tie.Need-put-listing-requires
 put-listing-requires c κs =
-    sound-of-finish (c .before .before .before .before .before .args .reading) (sym (c .before .before .finish-fault .ensures) ∙ c .before .if2 .taken)
-
-same-length : tie.Need-same-length
-same-length c = search needs
+    finishRefusal-sound (c .before .before .before .before .before .args .reading) (sym (c .before .before .finish-refusal .ensures) ∙ c .before .if2 .taken)
 
 returns-2 : tie.Need-returns-2
 returns-2 c =
     let a = c .before .before .before .before .before .before .before .before .args in
-    let none = sym (c .before .before .before .before .before .finish-fault .ensures) ∙ c .before .before .before .before .if2 .taken in
+    let none = sym (c .before .before .before .before .before .finish-refusal .ensures) ∙ c .before .before .before .before .if2 .taken in
     let called = c .before .before .put-listing in
     (called .ensures .0 ∙ answer-listing (a .reading) (a .output .now) none, called .ensures .1 ∙ written-listing (a .reading) (a .output .now) none)
 
-slice-relend-prefix-fill-refusal-line : tie.Need-slice-relend-prefix-fill-refusal-line
-slice-relend-prefix-fill-refusal-line c = search needs
-
 slice-aggregate-fill-refusal-line : tie.Need-slice-aggregate-fill-refusal-line
 slice-aggregate-fill-refusal-line c = sym (length-take-le refusalLineLength (c .before .before .before .before .before .args .output .now) (omega arith))
-
-fill-refusal-line-requires : tie.Need-fill-refusal-line-requires
-fill-refusal-line-requires c κs = search needs
-
-same-length-2 : tie.Need-same-length-2
-same-length-2 c = search needs
 
 returns-3 : tie.Need-returns-3
 returns-3 c =
     let a = c .before .before .before .before .before .before .before .before .args in
     let buffer = a .output .now in
-    let fault = c .before .before .before .before .before .finish-fault .ensures in
+    let refusal = c .before .before .before .before .before .finish-refusal .ensures in
     let part = length-take-le refusalLineLength buffer (omega arith) in
     let line = c .before .before .fill-refusal-line .ensures .1
-    ∙ ap (refusalLineExit (take refusalLineLength buffer)) fault
-    ∙ refusal-line-written (take refusalLineLength buffer) _ part (finish-fault-le (a .reading)) in
-    written-refusal (a .reading) buffer _ (omega arith) (λ z. c .before .before .before .before .if2 .left (fault ∙ z)) line
+    ∙ ap (refusalLineExit (take refusalLineLength buffer)) refusal
+    ∙ refusalLineExit-accepted _ (omega (arith, finishRefusal-le (a .reading))) (take refusalLineLength buffer) part in
+    written-refusal (a .reading) buffer _ (omega arith) (λ z. c .before .before .before .before .if2 .left (refusal ∙ z)) line
 
 pub finish-spec : {M : Type 1} → statement M
 finish-spec =
     tie.close
     (tie.spec
     returns
-    finish-fault-requires
+    (λ c κs. search needs)
     put-listing-requires
-    same-length
+    (λ c. search needs)
     returns-2
-    slice-relend-prefix-fill-refusal-line
+    (λ c. search needs)
     slice-aggregate-fill-refusal-line
-    fill-refusal-line-requires
-    same-length-2
+    (λ c κs. search needs)
+    (λ c. search needs)
     returns-3)

@@ -24,27 +24,9 @@ loop-holds : tie.Need-loop-holds Inv-loop μ-loop
 unfolding tabulate
 loop-holds c = (omega arith, refl)
 
-mul-narrow : tie.Need-mul-narrow Inv-loop μ-loop
-mul-narrow c = search needs
-
-array-read-narrow : tie.Need-array-read-narrow Inv-loop μ-loop
-array-read-narrow c = search needs
-
 cast-narrow : tie.Need-cast-narrow Inv-loop μ-loop
 cast-narrow c =
     record { fits = omega (arith, getD-le-of-none-above largestValue _ (c .before .loop .i) (c .before .before .pre)) }
-
-mul-narrow-2 : tie.Need-mul-narrow-2 Inv-loop μ-loop
-mul-narrow-2 c = search needs
-
-array-write-narrow : tie.Need-array-write-narrow Inv-loop μ-loop
-array-write-narrow c = search needs
-
-add-i : tie.Need-add-i Inv-loop μ-loop
-add-i c = search needs
-
-loop-less : tie.Need-loop-less Inv-loop μ-loop
-loop-less c = search needs
 
 loop-again : tie.Need-loop-again Inv-loop μ-loop
 loop-again c =
@@ -66,12 +48,12 @@ narrowed-spec =
     Inv-loop
     μ-loop
     loop-holds
-    mul-narrow
-    array-read-narrow
+    (λ c. search needs)
+    (λ c. search needs)
     cast-narrow
-    mul-narrow-2
-    array-write-narrow
-    add-i
-    loop-less
+    (λ c. search needs)
+    (λ c. search needs)
+    (λ c. search needs)
+    (λ c. search needs)
     loop-again
     returns)

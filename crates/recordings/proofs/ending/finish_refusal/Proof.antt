@@ -1,0 +1,20 @@
+-- `recordings::ending::finish_refusal` meets its contract.
+use borrow.Author.Needs.{needs}
+use Rattle.recordings.specs.Ending.{finishRefusal}
+use Rattle.recordings.proofs.ending.finish_refusal.Statement.{statement}
+use Rattle.recordings.proofs.ending.finish_refusal.Tie as tie
+
+returns : tie.Need-returns
+unfolding finishRefusal
+returns c = cc
+
+pub finish-refusal-spec : {M : Type 1} → statement M
+finish-refusal-spec =
+    tie.close
+    (tie.spec
+    (λ c κs. search needs)
+    (λ c κs. search needs)
+    (λ c κs. search needs)
+    (λ c κs. search needs)
+    (λ c κs. search needs)
+    returns)
