@@ -1,12 +1,10 @@
 // The class A limits as exact fractions. The one place of the code that knows a milliampere figure.
-use crate::comparison::Fraction;
-ghost use Prim.Native.Nat.{_<_, _≤_};
+use crate::Question;
+use crate::tests::Fraction;
+ghost use mathlib.Core.Path.{_≡_};
 ghost use Rattle.algebra.specs.Fraction.{whole};
-ghost use Rattle.rows.specs.Orders.{orderCount};
-ghost use Rattle.verdict.specs.Limit.{overOrder, limitOf};
-ghost use Rattle.verdict.specs.Tests.{limitInUnits, peakLimitInUnits};
-ghost use Rattle.verdict.specs.Call.{largestScale};
-ghost use Rattle.verdict.specs.Parts.{Parts};
+ghost use Rattle.verdict.specs.Tests.{parts};
+ghost use Rattle.verdict.specs.Limit.{overOrder, limitOf, limitInUnits, peakLimitInUnits};
 
 // The figure of the odd orders that have none of their own, over the order.
 const ODD_FIGURE: u64 = 2250;
@@ -17,7 +15,7 @@ const MILLIAMPERES: u64 = 1000;
 
 // A figure of its own, which is not divided.
 fn whole_figure(figure: u64) -> Fraction
-    ensures { λ r. ⌜ Parts r (whole figure) ⌝ }
+    ensures { λ r. ⌜ r ≡ parts (whole figure) ⌝ }
 {
     Fraction {
         numerator: figure,
@@ -25,11 +23,13 @@ fn whole_figure(figure: u64) -> Fraction
     }
 }
 
-// A figure over the order.
+// A figure over the order, or over 1 at the order 0.
 fn over_order(figure: u64, order: u32) -> Fraction
-    requires { ⌜ 0 < order ⌝ }
-    ensures { λ r. ⌜ Parts r (overOrder figure order) ⌝ }
+    ensures { λ r. ⌜ r ≡ parts (overOrder figure order) ⌝ }
 {
+    if order == 0 {
+        return whole_figure(figure);
+    }
     Fraction {
         numerator: figure,
         denominator: order as u64,
@@ -38,8 +38,7 @@ fn over_order(figure: u64, order: u32) -> Fraction
 
 // The limit of an order in milliamperes. A match holds each figure once, and no table is copied.
 fn limit_of(order: u32) -> Fraction
-    requires { ⌜ 0 < order ⌝ }
-    ensures { λ r. ⌜ Parts r (limitOf order) ⌝ }
+    ensures { λ r. ⌜ r ≡ parts (limitOf order) ⌝ }
 {
     match order {
         2 => whole_figure(1080),
@@ -61,24 +60,22 @@ fn limit_of(order: u32) -> Fraction
     }
 }
 
-// The limit of an order in units.
-pub(crate) fn limit_in_units(order: u32, units_per_ampere: u32) -> Fraction
-    requires { ⌜ (0 < order) × (order ≤ orderCount) × («units_per_ampere» ≤ largestScale) ⌝ }
-    ensures { λ r. ⌜ Parts r (limitInUnits order «units_per_ampere») ⌝ }
+// The limit in units of what is asked.
+pub(crate) fn limit_in_units(question: Question) -> Fraction
+    ensures { λ r. ⌜ r ≡ parts (limitInUnits question) ⌝ }
 {
-    let limit = limit_of(order);
+    let limit = limit_of(question.order);
     Fraction {
-        numerator: units_per_ampere as u64 * limit.numerator,
+        numerator: question.scale as u64 * limit.numerator,
         denominator: MILLIAMPERES * limit.denominator,
     }
 }
 
 // 150 % of the limit, as three halves.
-pub(crate) fn peak_limit_in_units(order: u32, units_per_ampere: u32) -> Fraction
-    requires { ⌜ (0 < order) × (order ≤ orderCount) × («units_per_ampere» ≤ largestScale) ⌝ }
-    ensures { λ r. ⌜ Parts r (peakLimitInUnits order «units_per_ampere») ⌝ }
+pub(crate) fn peak_limit_in_units(question: Question) -> Fraction
+    ensures { λ r. ⌜ r ≡ parts (peakLimitInUnits question) ⌝ }
 {
-    let limit = limit_in_units(order, units_per_ampere);
+    let limit = limit_in_units(question);
     Fraction {
         numerator: 3 * limit.numerator,
         denominator: 2 * limit.denominator,
