@@ -7,12 +7,15 @@ use Rattle.observation.specs.Smoothing.{smoothedMargin}
 use Rattle.verdict.specs.declared.tests.Fraction.{Fraction as Held}
 
 -- a fraction as the code holds it
+abbrev pub held : ℕ → ℕ → Held
+held numerator denominator = record { numerator = numerator; denominator = denominator }
+
 abbrev pub parts : Fraction → Held
-parts p = record { numerator = p .num; denominator = p .den }
+parts p = held (p .num) (p .den)
 
 -- a fraction and a whole number
 unfoldable pub raised : Held → ℕ → Held
-raised p by = record { numerator = p .numerator + by * p .denominator; denominator = p .denominator }
+raised p by = held (p .numerator + by * p .denominator) (p .denominator)
 
 -- "two are compared by cross products": p is at most q
 unfoldable pub atMost : Held → Held → Bool

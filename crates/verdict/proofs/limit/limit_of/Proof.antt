@@ -1,10 +1,12 @@
 -- `verdict::limit::limit_of` meets its contract: each arm is the definition at its order, and the last that of every other order.
 use mathlib.Core.Path.{_≡_, sym}
 use mathlib.Core.Bool.{false, cond}
-use Prim.Native.Nat.{ℕ, _%_}
+use Prim.Native.Nat.{ℕ, _%_, max}
+use native.Mathlib.Omega.{arith}
 use lib.Dec.{eqb}
 use borrow.Author.Needs.{needs}
 use borrow.Author.Tests.{eq-eqb, ne-eqb}
+use Rattle.algebra.specs.Fraction.{whole}
 use Rattle.verdict.specs.Limit.{ownFigures, oddFigure, evenFigure, overOrder, figureIn, limitOf}
 use Rattle.verdict.proofs.limit.limit_of.Statement.{statement}
 use Rattle.verdict.proofs.limit.limit_of.Tie as tie
@@ -31,8 +33,12 @@ other c =
       other-order 13 _ (rest .1),
     )
 
+-- and is not 0
+divisor : (c : tie.At-match-rest) → max (c .before .args .order) 1 ≡ c .before .args .order
+divisor c = let some = c .match .rest .0 .0 .0 .0 .0 .0 .0 .0 .0 .1 in omega arith
+
 pub limit-of-spec : {M : Type 1} → statement M
-unfolding limitOf figureIn ownFigures
+unfolding limitOf figureIn ownFigures overOrder whole
 limit-of-spec =
     tie.close
     (tie.spec
@@ -47,14 +53,16 @@ limit-of-spec =
     (λ c κs. search needs)
     (λ c κs. search needs)
     (λ c κs. search needs)
-    (λ c. rw (c .before .match .keys1) (c .whole-figure .ensures))
-    (λ c. rw (c .before .match .keys2) (c .whole-figure2 .ensures))
-    (λ c. rw (c .before .match .keys3) (c .whole-figure3 .ensures))
-    (λ c. rw (c .before .match .keys4) (c .whole-figure4 .ensures))
-    (λ c. rw (c .before .match .keys5) (c .whole-figure5 .ensures))
-    (λ c. rw (c .before .match .keys6) (c .whole-figure6 .ensures))
-    (λ c. rw (c .before .match .keys7) (c .whole-figure7 .ensures))
-    (λ c. rw (c .before .match .keys8) (c .whole-figure8 .ensures))
-    (λ c. rw (c .before .match .keys9) (c .whole-figure9 .ensures))
-    (λ c. rw (other (c .before .before), eq-eqb _ 0 (c .before .if1 .taken)) (c .over-order .ensures))
-    (λ c. rw (other (c .before .before), ne-eqb _ 0 (c .before .if1 .left)) (c .over-order2 .ensures)))
+    (λ c κs. search needs)
+    (λ c. rw (c .before .match .keys1) (c .figure-over .ensures))
+    (λ c. rw (c .before .match .keys2) (c .figure-over2 .ensures))
+    (λ c. rw (c .before .match .keys3) (c .figure-over3 .ensures))
+    (λ c. rw (c .before .match .keys4) (c .figure-over4 .ensures))
+    (λ c. rw (c .before .match .keys5) (c .figure-over5 .ensures))
+    (λ c. rw (c .before .match .keys6) (c .figure-over6 .ensures))
+    (λ c. rw (c .before .match .keys7) (c .figure-over7 .ensures))
+    (λ c. rw (c .before .match .keys8) (c .figure-over8 .ensures))
+    (λ c. rw (c .before .match .keys9) (c .figure-over9 .ensures))
+    (λ c. rw (c .before .match .keys10) (c .figure-over10 .ensures))
+    (λ c. rw (other (c .before .before), eq-eqb _ 0 (c .before .if1 .taken), divisor (c .before .before)) (c .figure-over11 .ensures))
+    (λ c. rw (other (c .before .before), ne-eqb _ 0 (c .before .if1 .left), divisor (c .before .before)) (c .figure-over12 .ensures)))
