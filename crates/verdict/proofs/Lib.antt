@@ -1,6 +1,5 @@
 -- The theorems of class A verdicts.
 pub mod Worked
-pub mod CrossProducts
-pub mod LimitBounds
+pub mod Limits
+pub mod Raised
 pub mod Verdicts
-pub mod HeldParts

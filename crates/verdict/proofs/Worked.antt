@@ -3,20 +3,21 @@ use mathlib.Core.Path.{_≡_, refl}
 use mathlib.Core.List.{List, [], _∷_, map}
 use Prim.Native.Nat.{ℕ, _-_}
 use lib.ListN.{replicate, set}
-use Rattle.algebra.specs.Fraction.{whole, scale, divide, _+ᶠ_}
+use Rattle.algebra.specs.Fraction.{whole, scale, divide}
 use Rattle.algebra.specs.Lists.{anyOf}
 use Rattle.rows.specs.Systems.{isSystem}
 use Rattle.observation.specs.declared.Observation.{Observation}
 use Rattle.observation.specs.Soundness.{noneAbove, allZero, isSound}
 use Rattle.observation.specs.Calls.{emptyRecord}
+use Rattle.observation.specs.Average.{averageOf, peakOf}
 use Rattle.verdict.specs.declared.Verdict.{Verdict}
 use Rattle.verdict.specs.declared.Verdict.the-variants.{Within, Close, Over}
-use Rattle.verdict.specs.declared.Answered.{Answered}
-use Rattle.verdict.specs.declared.Answered.the-variants.{Given, Refused}
-use Rattle.verdict.specs.Limit.{ownFigures, overOrder, figureIn, limitOf}
-use Rattle.verdict.specs.Tests.{limitInUnits, peakLimitInUnits, isWithin, isOver}
+use Rattle.verdict.specs.declared.VerdictAnswer.{VerdictAnswer}
+use Rattle.verdict.specs.declared.VerdictAnswer.the-variants.{Given, Refused}
+use Rattle.verdict.specs.Question.{asked}
+use Rattle.verdict.specs.Limit.{ownFigures, overOrder, figureIn, limitOf, limitInUnits, peakLimitInUnits}
+use Rattle.verdict.specs.Tests.{raised, atMost, isWithin, isOver}
 use Rattle.verdict.specs.Call.{combined, verdictOf, verdictRefusal, verdictAnswer, refusalNumber, orderNumber}
-use Rattle.observation.specs.Average.{averageOf, peakOf}
 
 -- ---- the limits
 
@@ -74,59 +75,49 @@ oneWindow order value = observed 1 order value value
 unsound : Observation
 unsound = emptyRecord 11
 
-pub record VerdictCase : Type 0 where
-  pub observation : Observation
-  pub order : ℕ
-  pub unitsPerAmpere : ℕ
-  pub answer : Answered
-
-abbrev asked : Observation → ℕ → ℕ → Answered → VerdictCase
-asked observation order unitsPerAmpere answer =
-    record { observation = observation; order = order; unitsPerAmpere = unitsPerAmpere; answer = answer }
-
-verdictCases : List VerdictCase
+verdictCases : List (VerdictAnswer × VerdictAnswer)
 verdictCases =
     -- case •9: the average decides
-    asked (oneWindow 3 2299988) 3 1000000 (Given (Within 3)) ∷
-    asked (oneWindow 3 2299989) 3 1000000 (Given (Close 3)) ∷
-    asked (oneWindow 3 2300012) 3 1000000 (Given (Close 3)) ∷
-    asked (oneWindow 3 2300013) 3 1000000 (Given (Over 3)) ∷
+    (verdictAnswer (oneWindow 3 2299988) (asked 3 1000000), Given (Within 3)) ∷
+    (verdictAnswer (oneWindow 3 2299989) (asked 3 1000000), Given (Close 3)) ∷
+    (verdictAnswer (oneWindow 3 2300012) (asked 3 1000000), Given (Close 3)) ∷
+    (verdictAnswer (oneWindow 3 2300013) (asked 3 1000000), Given (Over 3)) ∷
     -- the peak decides, against 3450000
-    asked (observed 2 3 4000000 3449988) 3 1000000 (Given (Within 3)) ∷
-    asked (observed 2 3 4000000 3449989) 3 1000000 (Given (Close 3)) ∷
-    asked (observed 2 3 4000000 3450012) 3 1000000 (Given (Close 3)) ∷
-    asked (observed 2 3 4000000 3450013) 3 1000000 (Given (Over 3)) ∷
+    (verdictAnswer (observed 2 3 4000000 3449988) (asked 3 1000000), Given (Within 3)) ∷
+    (verdictAnswer (observed 2 3 4000000 3449989) (asked 3 1000000), Given (Close 3)) ∷
+    (verdictAnswer (observed 2 3 4000000 3450012) (asked 3 1000000), Given (Close 3)) ∷
+    (verdictAnswer (observed 2 3 4000000 3450013) (asked 3 1000000), Given (Over 3)) ∷
     -- a limit that is not whole: 2250000/39 is above 57692 and below 57693
-    asked (oneWindow 39 57680) 39 1000000 (Given (Within 39)) ∷
-    asked (oneWindow 39 57681) 39 1000000 (Given (Close 39)) ∷
-    asked (oneWindow 39 57704) 39 1000000 (Given (Close 39)) ∷
-    asked (oneWindow 39 57705) 39 1000000 (Given (Over 39)) ∷
+    (verdictAnswer (oneWindow 39 57680) (asked 39 1000000), Given (Within 39)) ∷
+    (verdictAnswer (oneWindow 39 57681) (asked 39 1000000), Given (Close 39)) ∷
+    (verdictAnswer (oneWindow 39 57704) (asked 39 1000000), Given (Close 39)) ∷
+    (verdictAnswer (oneWindow 39 57705) (asked 39 1000000), Given (Over 39)) ∷
     -- 6: the orders 2..40 are judged
-    asked (oneWindow 3 0) 1 1000000 (Refused 6) ∷
-    asked (oneWindow 3 0) 2 1000000 (Given (Within 2)) ∷
-    asked (oneWindow 3 0) 40 1000000 (Given (Within 40)) ∷
-    asked (oneWindow 3 0) 41 1000000 (Refused 6) ∷
+    (verdictAnswer (oneWindow 3 0) (asked 1 1000000), Refused 6) ∷
+    (verdictAnswer (oneWindow 3 0) (asked 2 1000000), Given (Within 2)) ∷
+    (verdictAnswer (oneWindow 3 0) (asked 40 1000000), Given (Within 40)) ∷
+    (verdictAnswer (oneWindow 3 0) (asked 41 1000000), Refused 6) ∷
     -- 11: K is 1..2^28
-    asked (oneWindow 3 0) 3 0 (Refused 11) ∷
-    asked (oneWindow 3 0) 3 1 (Given (Close 3)) ∷
-    asked (oneWindow 3 0) 3 268435456 (Given (Within 3)) ∷
-    asked (oneWindow 3 0) 3 268435457 (Refused 11) ∷
+    (verdictAnswer (oneWindow 3 0) (asked 3 0), Refused 11) ∷
+    (verdictAnswer (oneWindow 3 0) (asked 3 1), Given (Close 3)) ∷
+    (verdictAnswer (oneWindow 3 0) (asked 3 268435456), Given (Within 3)) ∷
+    (verdictAnswer (oneWindow 3 0) (asked 3 268435457), Refused 11) ∷
     -- 10: no window yet
-    asked (emptyRecord 10) 3 1000000 (Refused 10) ∷
+    (verdictAnswer (emptyRecord 10) (asked 3 1000000), Refused 10) ∷
     -- 7 before 10, 10 before 6, 6 before 11
-    asked unsound 3 1000000 (Refused 7) ∷
-    asked (emptyRecord 10) 41 1000000 (Refused 10) ∷
-    asked (oneWindow 3 0) 1 0 (Refused 6) ∷
+    (verdictAnswer unsound (asked 3 1000000), Refused 7) ∷
+    (verdictAnswer (emptyRecord 10) (asked 41 1000000), Refused 10) ∷
+    (verdictAnswer (oneWindow 3 0) (asked 1 0), Refused 6) ∷
     []
 
-verdicts-worked : map (λ row. verdictAnswer (row .observation) (row .order) (row .unitsPerAmpere)) verdictCases ≡ map (λ row. row .answer) verdictCases
-unfolding verdictCases only observed oneWindow unsound emptyRecord isSystem anyOf noneAbove allZero isSound whole scale divide _+ᶠ_ limitOf figureIn ownFigures overOrder limitInUnits peakLimitInUnits isWithin isOver averageOf peakOf combined verdictOf verdictRefusal verdictAnswer
+verdicts-worked : map (λ row. row .0) verdictCases ≡ map (λ row. row .1) verdictCases
+unfolding verdictCases only observed oneWindow unsound emptyRecord isSystem anyOf noneAbove allZero isSound whole scale divide limitOf figureIn ownFigures overOrder limitInUnits peakLimitInUnits raised atMost isWithin isOver averageOf peakOf combined verdictOf verdictRefusal verdictAnswer
 verdicts-worked = refl
 
 -- ---- the numbers of the cases
 
 -- an answer, and its number: "a refused verdict: the number alone"
-abbrev numbers : List (Answered × ℕ)
+abbrev numbers : List (VerdictAnswer × ℕ)
 numbers =
     (Given (Within 3), 0) ∷
     (Given (Close 3), 0) ∷

@@ -1,63 +1,57 @@
--- What the call `verdict` answers (document 01, "Class A verdicts" and the refusal table's row "verdict").
-use mathlib.Core.Bool.{cond, not, _&&_, _||_}
-use mathlib.Core.List.{[], _∷_}
-use Prim.Native.Nat.{ℕ, _^_}
-use lib.Dec.{eqb, leb}
-use Rattle.algebra.specs.Fraction.{Fraction}
-use Rattle.rows.specs.Orders.{orderCount}
+-- What the call `order_verdict` answers (document 01, "Class A verdicts" and the refusal table's row "verdict").
+use mathlib.Core.Bool.{Bool, cond, not, _&&_, _||_}
+use mathlib.Core.List.{List, [], _∷_}
+use Prim.Native.Nat.{ℕ}
+use lib.Dec.{eqb}
 use Rattle.refusals.specs.Numbers.{noRefusal, unsoundRecord, noWindow, orderOutOfRange, scaleOutOfRange}
-use Rattle.refusals.specs.Answers.{firstFault}
+use Rattle.refusals.specs.Answers.{firstFault, unlessRefused}
 use Rattle.observation.specs.declared.Observation.{Observation}
 use Rattle.observation.specs.Soundness.{isSound}
 use Rattle.observation.specs.Average.{averageOf, peakOf}
+use Rattle.verdict.specs.declared.tests.Fraction.{Fraction as Held}
+use Rattle.verdict.specs.declared.Question.{Question}
 use Rattle.verdict.specs.declared.Verdict.{Verdict}
 use Rattle.verdict.specs.declared.Verdict.the-variants.{Within, Close, Over}
-use Rattle.verdict.specs.declared.Answered.{Answered}
-use Rattle.verdict.specs.declared.Answered.the-variants.{Given, Refused}
-use Rattle.verdict.specs.Tests.{limitInUnits, peakLimitInUnits, isWithin, isOver}
+use Rattle.verdict.specs.declared.VerdictAnswer.{VerdictAnswer}
+use Rattle.verdict.specs.declared.VerdictAnswer.the-variants.{Given, Refused}
+use Rattle.verdict.specs.Question.{isJudged, isScale}
+use Rattle.verdict.specs.Limit.{limitInUnits, peakLimitInUnits}
+use Rattle.verdict.specs.Tests.{parts, isWithin, isOver}
 
--- K, the units per ampere: 1..2^28
-abbrev pub largestScale : ℕ
-largestScale = 2 ^ 28
-
--- a verdict is asked of the orders 2..40
-abbrev pub firstJudged : ℕ
-firstJudged = 2
-
--- over if either test is, within if both are, else close
-unfoldable pub combined : Fraction → Fraction → Fraction → Fraction → ℕ → Verdict
+-- "over if either test is, within if both are, else close", each case with the order
+unfoldable pub combined : Held → Held → Held → Held → ℕ → Verdict
 combined average limit peak peakLimit order =
     cond (isOver average limit || isOver peak peakLimit) (Over order)
     (cond (isWithin average limit && isWithin peak peakLimit) (Within order) (Close order))
 
-unfoldable pub verdictOf : Observation → ℕ → ℕ → Verdict
-verdictOf o order unitsPerAmpere =
+-- "the average (sum/n) against the limit, the peak against 150 % of it"
+unfoldable pub verdictOf : Observation → Question → Verdict
+verdictOf o q =
     combined
-    (averageOf o order)
-    (limitInUnits order unitsPerAmpere)
-    (peakOf o order)
-    (peakLimitInUnits order unitsPerAmpere)
-    order
+    (parts (averageOf o (q .order)))
+    (parts (limitInUnits q))
+    (parts (peakOf o (q .order)))
+    (parts (peakLimitInUnits q))
+    (q .order)
 
 -- 7 record not sound; 10 no window yet; 6 order outside 2..40; 11 K outside 1..2^28
-unfoldable pub verdictRefusal : Observation → ℕ → ℕ → ℕ
-verdictRefusal o order unitsPerAmpere =
-    firstFault
-    ((not (isSound o), unsoundRecord) ∷
+abbrev pub verdictChecks : Observation → Question → List (Bool × ℕ)
+verdictChecks o q =
+    (not (isSound o), unsoundRecord) ∷
     (eqb (o .windows) 0, noWindow) ∷
-    (not (leb firstJudged order && leb order orderCount), orderOutOfRange) ∷
-    (not (leb 1 unitsPerAmpere && leb unitsPerAmpere largestScale), scaleOutOfRange) ∷
-    [])
+    (not (isJudged (q .order)), orderOutOfRange) ∷
+    (not (isScale (q .scale)), scaleOutOfRange) ∷
+    []
 
--- a refused verdict is the number alone
-unfoldable pub verdictAnswer : Observation → ℕ → ℕ → Answered
-verdictAnswer o order unitsPerAmpere =
-    cond (eqb (verdictRefusal o order unitsPerAmpere) noRefusal)
-    (Given (verdictOf o order unitsPerAmpere))
-    (Refused (verdictRefusal o order unitsPerAmpere))
+unfoldable pub verdictRefusal : Observation → Question → ℕ
+verdictRefusal o q = firstFault (verdictChecks o q)
+
+-- "a refused verdict: the number alone"
+unfoldable pub verdictAnswer : Observation → Question → VerdictAnswer
+verdictAnswer o q = unlessRefused (verdictRefusal o q) (Given (verdictOf o q)) (Refused (verdictRefusal o q))
 
 -- document 01's number of an answer: that of the refusal, 0 for a verdict
-unfoldable pub refusalNumber : Answered → ℕ
+unfoldable pub refusalNumber : VerdictAnswer → ℕ
 refusalNumber (Given v) = noRefusal
 refusalNumber (Refused n) = n
 

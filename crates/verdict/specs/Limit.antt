@@ -4,7 +4,8 @@ use mathlib.Core.List.{List, [], _∷_}
 use Prim.Native.Nat.{ℕ, _%_, max}
 use native.Mathlib.Omega.{arith}
 use lib.Dec.{eqb}
-use Rattle.algebra.specs.Fraction.{Fraction, whole}
+use Rattle.algebra.specs.Fraction.{Fraction, whole, scale, divide}
+use Rattle.verdict.specs.declared.Question.{Question}
 
 -- the orders with a figure of their own, and that figure in milliamperes
 unfoldable pub ownFigures : List (ℕ × ℕ)
@@ -30,3 +31,15 @@ figureIn (entry ∷ entries) h other = cond (eqb (entry .0) h) (whole (entry .1)
 -- the limit of an order 2..40, in milliamperes
 unfoldable pub limitOf : ℕ → Fraction
 limitOf h = figureIn ownFigures h (cond (eqb (h % 2) 0) (overOrder evenFigure h) (overOrder oddFigure h))
+
+-- milliamperes in an ampere
+abbrev pub milliamperes : ℕ
+milliamperes = 1000
+
+-- "The limit in units is the mA figure × K / 1000"
+unfoldable pub limitInUnits : Question → Fraction
+limitInUnits q = divide (scale (q .scale) (limitOf (q .order))) milliamperes (omega arith)
+
+-- 150 % of it, as three halves
+unfoldable pub peakLimitInUnits : Question → Fraction
+peakLimitInUnits q = divide (scale 3 (limitInUnits q)) 2 (omega arith)

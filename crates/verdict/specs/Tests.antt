@@ -1,35 +1,35 @@
--- The two tests of a verdict (document 01, "Class A verdicts"). Fractions are compared by cross products, and nothing is divided.
-use mathlib.Core.Bool.{Bool}
-use Prim.Native.Nat.{ℕ, _*_}
-use native.Mathlib.Omega.{arith}
-use lib.Dec.{leb, ltb}
-use Rattle.algebra.specs.Fraction.{Fraction, whole, scale, divide, _+ᶠ_, _≤ᶠ_, _<ᶠ_}
+-- The two tests of a verdict (document 01, "Class A verdicts"). Fractions are compared by cross products of their parts, and nothing is divided.
+use mathlib.Core.Bool.{Bool, not}
+use Prim.Native.Nat.{ℕ, _+_, _*_}
+use lib.Dec.{leb}
+use Rattle.algebra.specs.Fraction.{Fraction, whole, _+ᶠ_, _≤ᶠ_, _<ᶠ_}
 use Rattle.observation.specs.Smoothing.{smoothedMargin}
-use Rattle.verdict.specs.Limit.{limitOf}
+use Rattle.verdict.specs.declared.tests.Fraction.{Fraction as Held}
 
--- milliamperes in an ampere
-abbrev pub milliamperes : ℕ
-milliamperes = 1000
+-- a fraction as the code holds it
+abbrev pub held : ℕ → ℕ → Held
+held numerator denominator = record { numerator = numerator; denominator = denominator }
 
--- "The limit in units is the mA figure × K / 1000"
-unfoldable pub limitInUnits : ℕ → ℕ → Fraction
-limitInUnits order unitsPerAmpere = divide (scale unitsPerAmpere (limitOf order)) milliamperes (omega arith)
+abbrev pub parts : Fraction → Held
+parts p = held (p .num) (p .den)
 
--- 150 % of it, as three halves
-unfoldable pub peakLimitInUnits : ℕ → ℕ → Fraction
-peakLimitInUnits order unitsPerAmpere = divide (scale 3 (limitInUnits order unitsPerAmpere)) 2 (omega arith)
+-- a fraction and a whole number
+unfoldable pub raised : Held → ℕ → Held
+raised p by = held (p .numerator + by * p .denominator) (p .denominator)
 
--- value + 12 is at most the limit
-unfoldable pub isWithin : Fraction → Fraction → Bool
-isWithin value limit =
-    leb ((value +ᶠ whole smoothedMargin) .num * limit .den) (limit .num * (value +ᶠ whole smoothedMargin) .den)
+-- "two are compared by cross products": p is at most q
+unfoldable pub atMost : Held → Held → Bool
+atMost p q = leb (p .numerator * q .denominator) (q .numerator * p .denominator)
 
--- value − 12 exceeds the limit: limit + 12 is below the value
-unfoldable pub isOver : Fraction → Fraction → Bool
-isOver value limit =
-    ltb ((limit +ᶠ whole smoothedMargin) .num * value .den) (value .num * (limit +ᶠ whole smoothedMargin) .den)
+-- "within if value + 12 is at most the limit in units"
+unfoldable pub isWithin : Held → Held → Bool
+isWithin value limit = atMost (raised value smoothedMargin) limit
 
--- a band touches its limit: the value less 12 is at most the limit, and the value plus 12 is above it
+-- "over if value − 12 exceeds it": the value is not at most the limit + 12
+unfoldable pub isOver : Held → Held → Bool
+isOver value limit = not (atMost value (raised limit smoothedMargin))
+
+-- "a band touches its limit": the value less 12 is at most the limit, and the value plus 12 is above it
 pub record Touches (value limit : Fraction) : Type 0 where
   pub not-over : value ≤ᶠ limit +ᶠ whole smoothedMargin
   pub not-within : limit <ᶠ value +ᶠ whole smoothedMargin

@@ -1,7 +1,15 @@
-// The verdict of an order against the class A limits of IEC 61000-3-2.
-pub mod class_a;
-mod comparison;
+// The verdict of an order against the limits of IEC 61000-3-2, class A.
+mod call;
 mod limit;
+mod tests;
+
+pub use call::order_verdict;
+
+// What is asked: a harmonic order, and the units per ampere, K, in which the record counts.
+pub struct Question {
+    pub order: u32,
+    pub scale: u32,
+}
 
 // Document 01's three cases, each with its order.
 pub enum Verdict {
@@ -11,7 +19,7 @@ pub enum Verdict {
 }
 
 // A verdict, or the number of the refusal alone.
-pub enum Answered {
+pub enum VerdictAnswer {
     Given(Verdict),
     Refused(u32),
 }

@@ -1,12 +1,9 @@
 // The class A limits as exact fractions. The one place of the code that knows a milliampere figure.
-use crate::comparison::Fraction;
-ghost use Prim.Native.Nat.{_<_, _≤_};
-ghost use Rattle.algebra.specs.Fraction.{whole};
-ghost use Rattle.rows.specs.Orders.{orderCount};
-ghost use Rattle.verdict.specs.Limit.{overOrder, limitOf};
-ghost use Rattle.verdict.specs.Tests.{limitInUnits, peakLimitInUnits};
-ghost use Rattle.verdict.specs.Call.{largestScale};
-ghost use Rattle.verdict.specs.Parts.{Parts};
+use crate::Question;
+use crate::tests::Fraction;
+ghost use mathlib.Core.Path.{_≡_};
+ghost use Rattle.verdict.specs.Tests.{held, parts};
+ghost use Rattle.verdict.specs.Limit.{limitOf, limitInUnits, peakLimitInUnits};
 
 // The figure of the odd orders that have none of their own, over the order.
 const ODD_FIGURE: u64 = 2250;
@@ -15,70 +12,58 @@ const EVEN_FIGURE: u64 = 1840;
 // Milliamperes in an ampere.
 const MILLIAMPERES: u64 = 1000;
 
-// A figure of its own, which is not divided.
-fn whole_figure(figure: u64) -> Fraction
-    ensures { λ r. ⌜ Parts r (whole figure) ⌝ }
+// A figure over a whole number.
+fn figure_over(figure: u64, number: u32) -> Fraction
+    ensures { λ r. ⌜ r ≡ held figure number ⌝ }
 {
     Fraction {
         numerator: figure,
-        denominator: 1,
+        denominator: number as u64,
     }
 }
 
-// A figure over the order.
-fn over_order(figure: u64, order: u32) -> Fraction
-    requires { ⌜ 0 < order ⌝ }
-    ensures { λ r. ⌜ Parts r (overOrder figure order) ⌝ }
-{
-    Fraction {
-        numerator: figure,
-        denominator: order as u64,
-    }
-}
-
-// The limit of an order in milliamperes. A match holds each figure once, and no table is copied.
+// The limit of an order in milliamperes; the order 0, which is not judged, is divided by as 1 is. A
+// match holds each figure once, and no table is copied.
 fn limit_of(order: u32) -> Fraction
-    requires { ⌜ 0 < order ⌝ }
-    ensures { λ r. ⌜ Parts r (limitOf order) ⌝ }
+    ensures { λ r. ⌜ r ≡ parts (limitOf order) ⌝ }
 {
     match order {
-        2 => whole_figure(1080),
-        3 => whole_figure(2300),
-        4 => whole_figure(430),
-        5 => whole_figure(1140),
-        6 => whole_figure(300),
-        7 => whole_figure(770),
-        9 => whole_figure(400),
-        11 => whole_figure(330),
-        13 => whole_figure(210),
+        0 => figure_over(EVEN_FIGURE, 1),
+        2 => figure_over(1080, 1),
+        3 => figure_over(2300, 1),
+        4 => figure_over(430, 1),
+        5 => figure_over(1140, 1),
+        6 => figure_over(300, 1),
+        7 => figure_over(770, 1),
+        9 => figure_over(400, 1),
+        11 => figure_over(330, 1),
+        13 => figure_over(210, 1),
         _ => {
             if order % 2 == 0 {
-                over_order(EVEN_FIGURE, order)
+                figure_over(EVEN_FIGURE, order)
             } else {
-                over_order(ODD_FIGURE, order)
+                figure_over(ODD_FIGURE, order)
             }
         }
     }
 }
 
-// The limit of an order in units.
-pub(crate) fn limit_in_units(order: u32, units_per_ampere: u32) -> Fraction
-    requires { ⌜ (0 < order) × (order ≤ orderCount) × («units_per_ampere» ≤ largestScale) ⌝ }
-    ensures { λ r. ⌜ Parts r (limitInUnits order «units_per_ampere») ⌝ }
+// The limit in units of what is asked.
+pub(crate) fn limit_in_units(question: Question) -> Fraction
+    ensures { λ r. ⌜ r ≡ parts (limitInUnits question) ⌝ }
 {
-    let limit = limit_of(order);
+    let limit = limit_of(question.order);
     Fraction {
-        numerator: units_per_ampere as u64 * limit.numerator,
+        numerator: question.scale as u64 * limit.numerator,
         denominator: MILLIAMPERES * limit.denominator,
     }
 }
 
 // 150 % of the limit, as three halves.
-pub(crate) fn peak_limit_in_units(order: u32, units_per_ampere: u32) -> Fraction
-    requires { ⌜ (0 < order) × (order ≤ orderCount) × («units_per_ampere» ≤ largestScale) ⌝ }
-    ensures { λ r. ⌜ Parts r (peakLimitInUnits order «units_per_ampere») ⌝ }
+pub(crate) fn peak_limit_in_units(question: Question) -> Fraction
+    ensures { λ r. ⌜ r ≡ parts (peakLimitInUnits question) ⌝ }
 {
-    let limit = limit_in_units(order, units_per_ampere);
+    let limit = limit_in_units(question);
     Fraction {
         numerator: 3 * limit.numerator,
         denominator: 2 * limit.denominator,

@@ -1,0 +1,113 @@
+// The verdict of an order, asked of an observation record.
+use crate::Question;
+use crate::Verdict;
+use crate::VerdictAnswer;
+use crate::limit::limit_in_units;
+use crate::limit::peak_limit_in_units;
+use crate::tests::Fraction;
+use crate::tests::is_over;
+use crate::tests::is_within;
+use observation::Observation;
+use observation::is_sound;
+use refusals::NO_REFUSAL;
+use refusals::NO_WINDOW;
+use refusals::ORDER_OUT_OF_RANGE;
+use refusals::SCALE_OUT_OF_RANGE;
+use refusals::UNSOUND_RECORD;
+use refusals::fault_or;
+use rows::ORDER_COUNT;
+ghost use mathlib.Core.Path.{_≡_};
+ghost use mathlib.Core.Bool.{_&&_};
+ghost use lib.Dec.{leb};
+ghost use Rattle.refusals.specs.Numbers.{noRefusal};
+ghost use Rattle.verdict.specs.Call.{combined, verdictOf, verdictRefusal, verdictAnswer, refusalNumber};
+
+// The first order that is judged.
+const FIRST_JUDGED: u32 = 2;
+// The last one.
+const LAST_JUDGED: u32 = ORDER_COUNT as u32;
+// The largest number of units per ampere.
+const LARGEST_SCALE: u32 = 1 << 28;
+
+fn is_between(number: u32, least: u32, most: u32) -> bool
+    ensures { λ r. ⌜ r ≡ (leb least number && leb number most) ⌝ }
+{
+    (least <= number) & (number <= most)
+}
+
+// The refusal table's row "verdict": the number of the first fault.
+fn verdict_refusal(observation: Observation, question: Question) -> u32
+    ensures { λ r. ⌜ r ≡ verdictRefusal observation question ⌝ }
+{
+    fault_or(
+        !is_sound(observation),
+        UNSOUND_RECORD,
+        fault_or(
+            observation.windows == 0,
+            NO_WINDOW,
+            fault_or(
+                !is_between(question.order, FIRST_JUDGED, LAST_JUDGED),
+                ORDER_OUT_OF_RANGE,
+                fault_or(
+                    !is_between(question.scale, 1, LARGEST_SCALE),
+                    SCALE_OUT_OF_RANGE,
+                    NO_REFUSAL,
+                ),
+            ),
+        ),
+    )
+}
+
+// Over if either test is, within if both are, else close.
+fn combined(
+    average: Fraction,
+    limit: Fraction,
+    peak: Fraction,
+    peak_limit: Fraction,
+    order: u32,
+) -> Verdict
+    ensures { λ r. ⌜ r ≡ combined average limit peak «peak_limit» order ⌝ }
+{
+    let over = is_over(average, limit) | is_over(peak, peak_limit);
+    let within = is_within(average, limit) & is_within(peak, peak_limit);
+    if over {
+        return Verdict::Over(order);
+    }
+    if within {
+        return Verdict::Within(order);
+    }
+    Verdict::Close(order)
+}
+
+// The average against the limit and the peak against 150 % of it.
+fn verdict_of(observation: Observation, question: Question) -> Verdict
+    requires { ⌜ verdictRefusal observation question ≡ noRefusal ⌝ }
+    ensures { λ r. ⌜ r ≡ verdictOf observation question ⌝ }
+{
+    let order = question.order;
+    let place = (order - 1) as usize;
+    let average = Fraction {
+        numerator: observation.sum[place],
+        denominator: observation.windows as u64,
+    };
+    let peak = Fraction {
+        numerator: observation.peak[place],
+        denominator: 1,
+    };
+    let limit = limit_in_units(question);
+    let peak_limit = peak_limit_in_units(question);
+    combined(average, limit, peak, peak_limit, order)
+}
+
+// The verdict of what is asked, or the refusal. Refused: 7 record not sound, 10 no window yet, 6 order
+// outside 2..40, 11 units per ampere outside 1..2^28.
+pub fn order_verdict(observation: Observation, question: Question) -> VerdictAnswer
+    ensures { λ r. ⌜ r ≡ verdictAnswer observation question ⌝ }
+    ensures { λ r. ⌜ refusalNumber r ≡ verdictRefusal observation question ⌝ }
+{
+    let refusal = verdict_refusal(observation, question);
+    if refusal != NO_REFUSAL {
+        return VerdictAnswer::Refused(refusal);
+    }
+    VerdictAnswer::Given(verdict_of(observation, question))
+}
