@@ -118,7 +118,7 @@ lines-of-group kind system order window known-system known-order =
 
 pub groups-near : GroupsNear
 unfolding GroupsNear groupAnswer groupValue exactGroup exactGroupNumerator whole Fraction.square
-groups-near kind system order window known-system above-zero at-most in-range =
+groups-near kind system window known-system in-range order above-zero at-most =
     let xs = weightsOf kind system order in
     let known-order = is-order order above-zero at-most in
     let accepted = lines-accepted system order window known-system known-order in-range in

@@ -15,7 +15,7 @@ use Rattle.observation.specs.Smoothing.{reported}
 use Rattle.observation.specs.Soundness.{isSound}
 use Rattle.observation.specs.Calls.{emptyRecord, freshAnswer, bookAt, nextBook, withRow, addRowRefusal, addRowAnswer}
 use Rattle.observation.specs.CallList.{recordAfter}
-use Rattle.observation.specs.BookCalls.{accepts, bookCall, bookAfter, ownValues, AcceptedFit}
+use Rattle.observation.specs.BookCalls.{accepts, bookCall, bookAfter, ownValues, valueAt, AcceptedFit}
 use Rattle.observation.proofs.SoundRecord.{answer-of-sound, answer-sound, record-after-sound, empty-record-sound, fresh-of-known}
 
 -- the record with a row added holds the next book of each order
@@ -48,7 +48,7 @@ record-after-system o [] = refl
 record-after-system o (row ∷ rows) = record-after-system (addRowAnswer o row .observation) rows ∙ answer-system o row
 
 -- a call feeds the book of each order the row's own value, or changes nothing where the row is refused
-pub book-at-answer : (o : Observation) (row : Row) (i : ℕ) → i < orderCount → isSound o ≡ true → bookAt (addRowAnswer o row .observation) i ≡ bookCall reported (o .system) (bookAt o i) (record { row = row; value = getD (row .values) i 0 })
+pub book-at-answer : (o : Observation) (row : Row) (i : ℕ) → i < orderCount → isSound o ≡ true → bookAt (addRowAnswer o row .observation) i ≡ bookCall reported (accepts (o .system)) (bookAt o i) (record { row = row; value = getD (row .values) i 0 })
 unfolding bookCall bookAt nextBook
 book-at-answer o row i inside sound =
     ap (λ (after : Observation). bookAt after i) (answer-of-sound o row sound) ∙ either (accepts (o .system) (o .windows) row)
@@ -58,16 +58,16 @@ book-at-answer o row i inside sound =
     either false = refl
 
 -- the books after a list of calls, from any sound record
-pub book-at-record-after : (o : Observation) (rows : List Row) (i : ℕ) → i < orderCount → isSound o ≡ true → AcceptedFit (o .system) (o .windows) rows → bookAt (recordAfter o rows) i ≡ bookAfter reported (o .system) (bookAt o i) (ownValues i rows)
+pub book-at-record-after : (o : Observation) (rows : List Row) (i : ℕ) → i < orderCount → isSound o ≡ true → AcceptedFit (o .system) (o .windows) rows → bookAt (recordAfter o rows) i ≡ bookAfter reported (accepts (o .system)) (bookAt o i) (ownValues (valueAt i) rows)
 unfolding recordAfter bookAfter ownValues
 book-at-record-after o [] i inside sound fits = refl
 book-at-record-after o (row ∷ rows) i inside sound fits =
     let after = addRowAnswer o row .observation in
     let kept = answer-sound o row rows sound fits in
     book-at-record-after after rows i inside (kept .0) (kept .1) ∙
-    (ap (λ (system : ℕ). bookAfter reported system (bookAt after i) (ownValues i rows)) (answer-system o row) ∙
+    (ap (λ (system : ℕ). bookAfter reported (accepts system) (bookAt after i) (ownValues (valueAt i) rows)) (answer-system o row) ∙
     ap
-    (λ (book : Book reported). bookAfter reported (o .system) book (ownValues i rows))
+    (λ (book : Book reported). bookAfter reported (accepts (o .system)) book (ownValues (valueAt i) rows))
     (book-at-answer o row i inside sound))
 
 -- "The first gets a fresh record of system 10 or 12": the record after the list has its system, and the reported book of each order
@@ -81,9 +81,9 @@ unfolding emptyRecord
 fresh-record-after-sound system rows known fits =
     rw (fresh-of-known system known) (record-after-sound (emptyRecord system) rows (empty-record-sound system known) fits)
 
-pub fresh-record-after-books : (system : ℕ) (rows : List Row) (i : ℕ) → isSystem system ≡ true → i < orderCount → AcceptedFit system 0 rows → bookAt (recordAfter (freshAnswer system .observation) rows) i ≡ bookAfter reported system (emptyBook reported) (ownValues i rows)
+pub fresh-record-after-books : (system : ℕ) (rows : List Row) (i : ℕ) → isSystem system ≡ true → i < orderCount → AcceptedFit system 0 rows → bookAt (recordAfter (freshAnswer system .observation) rows) i ≡ bookAfter reported (accepts system) (emptyBook reported) (ownValues (valueAt i) rows)
 unfolding emptyRecord
 fresh-record-after-books system rows i known inside fits =
     rw (fresh-of-known system known)
     (book-at-record-after (emptyRecord system) rows i inside (empty-record-sound system known) fits ∙
-    ap (λ (book : Book reported). bookAfter reported system book (ownValues i rows)) (book-at-empty system i inside))
+    ap (λ (book : Book reported). bookAfter reported (accepts system) book (ownValues (valueAt i) rows)) (book-at-empty system i inside))
