@@ -1,7 +1,7 @@
 -- Demand 3: the distance of every group value, and the one claim about a list of calls.
 use mathlib.Core.Path.{_≡_}
 use mathlib.Core.Bool.{true}
-use Prim.Native.Nat.{ℕ, _-_, _<_}
+use Prim.Native.Nat.{_-_, _<_}
 use native.Mathlib.Omega.{arith}
 use Rattle.algebra.specs.Fraction.{whole, _+ᶠ_}
 use Rattle.rows.specs.Systems.{isSystem}

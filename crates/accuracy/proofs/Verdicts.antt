@@ -5,7 +5,7 @@ use mathlib.Core.Logic.{⊎-elim, ⊎-map}
 use Prim.Native.Nat.{ℕ, _-_, max}
 use native.Mathlib.Nat.{mul-le-mul-right}
 use native.Mathlib.Omega.{arith}
-use Rattle.algebra.specs.Fraction.{whole, _≤ᶠ_, Side, Near}
+use Rattle.algebra.specs.Fraction.{Fraction, whole, _≤ᶠ_, Side, Near}
 use Rattle.algebra.proofs.Fraction.{near-weaken, near-divide, near-le-bound, near-gt-bound}
 use Rattle.refusals.specs.Numbers.{noRefusal}
 use Rattle.groups.specs.declared.Kind.{Kind}
@@ -33,24 +33,26 @@ average-near kept book exactBook near =
     (near-divide (max (book .count) 1) kept _ (near-weaken (mul-le-mul-right kept (omega arith)) (near .sum-near)))
 
 module _ (kind : Kind) (list : CallList) (order scale : ℕ) where
+  -- the limits of the two tests
+  abbrev limit : Fraction
+  limit = limitInUnits order scale
+
+  abbrev peakLimit : Fraction
+  peakLimit = peakLimitInUnits order scale
+
   -- "every" stands inside each side of over: one u book that is not over on the average shows that every u book is over on the peak
   over-every-peak :
       (h : ℕ) →
       Keeps kind list order scale (Over h) →
       (book other : UBook kind list order) →
-      exactAverage (state kind list book) ≤ᶠ limitInUnits order scale →
+      exactAverage (state kind list book) ≤ᶠ limit →
       PeakExceeds order scale (state kind list other)
   unfolding Keeps
   over-every-peak h keeps book other le = ⊎-elim (λ over. absurd (omega (arith, over book))) (λ over. over other) keeps
 
   -- what a verdict says of a book's average and peak
   abbrev SaysOf : Book reported → Verdict → Type 0
-  SaysOf book =
-      Says
-      (average (whole (book .sum)) (book .count))
-      (limitInUnits order scale)
-      (whole (book .peak))
-      (peakLimitInUnits order scale)
+  SaysOf book = Says (average (whole (book .sum)) (book .count)) limit (whole (book .peak)) peakLimit
 
   module _
       (near : (side : Side) (book : ExactBook kind list side order) →
@@ -59,13 +61,13 @@ module _ (kind : Kind) (list : CallList) (order scale : ℕ) where
       says-keeps : (verdict : Verdict) → SaysOf (reportedBook list order) verdict → Keeps kind list order scale verdict
       unfolding Keeps
       says-keeps (Within h) says = λ book. (
-        near-le-bound (limitInUnits order scale) (average-near _ _ _ (near _ book)) (says .0),
-        near-le-bound (peakLimitInUnits order scale) (near _ book .peak-near) (says .1),
+        near-le-bound limit (average-near _ _ _ (near _ book)) (says .0),
+        near-le-bound peakLimit (near _ book .peak-near) (says .1),
       )
       says-keeps (Over h) says =
           ⊎-map
-          (λ over book. near-gt-bound (limitInUnits order scale) (average-near _ _ _ (near _ book)) over)
-          (λ over book. near-gt-bound (peakLimitInUnits order scale) (near _ book .peak-near) over)
+          (λ over book. near-gt-bound limit (average-near _ _ _ (near _ book)) over)
+          (λ over book. near-gt-bound peakLimit (near _ book .peak-near) over)
           says
       says-keeps (Close h) says = says
 

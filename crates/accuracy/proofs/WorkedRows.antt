@@ -81,6 +81,7 @@ module _ (side : Side) (kind : Kind) (list : CallList) (order : ℕ) (positive :
       BookNear side smoothedMargin (reportedBook list order) (state kind list book)
   unfolding reportedBook state
   exact-book-near book =
-      let each = each-accepted-carry (λ call. call .row) (Feeds side kind order) NearAt (accepted list) fed-near 0 (book .calls) (book .fed) in
+      let each =
+      each-accepted-carry (λ call. call .row) (Feeds side kind order) NearAt (accepted list) fed-near 0 (book .calls) (book .fed) in
       rw (book .same-rows) at
       (books-near side groupMargin smoothedMargin (margins-kept .0) (accepted list) (valueAt (order - 1)) (book .calls) each)

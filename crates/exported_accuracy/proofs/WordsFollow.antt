@@ -1,6 +1,6 @@
 -- The words of a record follow the list of document 01 that the calls have come to.
 -- The invariant: before the first fresh record there are 122 words, any; after it they are the words of the record after the list.
-use mathlib.Core.Path.{_≡_, refl, sym, ap, _∙_}
+use mathlib.Core.Path.{_≡_, refl, sym, ap}
 use mathlib.Core.Bool.{Bool, true, false, cond, not}
 use mathlib.Core.List.{List, [], _∷_, _++_, append-nil}
 use mathlib.Core.Option.{Option, none, some}
@@ -33,7 +33,11 @@ use Rattle.exported_accuracy.specs.Calls.{leftBy, wordsAtExit, wordsAfte
 -- ---- what a call leaves
 
 -- what holds on success and on a refusal holds of what a call leaves
-by-refusal : {A : Type 0} (P : A → Type 0) (refusal : ℕ) {accepted unchanged : A} → P accepted → P unchanged → P (unlessRefused refusal accepted unchanged)
+by-refusal :
+    {A : Type 0} (P : A → Type 0) (refusal : ℕ) {accepted unchanged : A} →
+    P accepted →
+    P unchanged →
+    P (unlessRefused refusal accepted unchanged)
 by-refusal P refusal {accepted} {unchanged} success refused = either (eqb refusal noRefusal)
   where
     either : (none : Bool) → P (cond none accepted unchanged)
@@ -127,14 +131,16 @@ row-follows none words row whole =
     (words-length _ (with-row-whole (recordOf words) row))
     whole
 row-follows (some list) words row follows =
-    let o = after list in
     record {
       known = follows .known;
       held = rw (record-held list words follows, follows .held, record-after-snoc _ (list .rows) row)
-          (either (eqb (addRowRefusal o row) noRefusal));
+          (either (eqb (addRowRefusal (after list) row) noRefusal));
     }
   where
-    either : (accepted : Bool) → cond accepted (wordsOf (withRow (after list) row)) (wordsOf (after list)) ≡ wordsOf (cond accepted (withRow (after list) row) (after list))
+    either :
+        (accepted : Bool) →
+        cond accepted (wordsOf (withRow (after list) row)) (wordsOf (after list)) ≡
+        wordsOf (cond accepted (withRow (after list) row) (after list))
     either true = refl
     either false = refl
 
