@@ -15,6 +15,8 @@ use Rattle.observation.specs.Smoothing.{newWeight, oldWeight, smoothedValue, re
 use Rattle.observation.specs.BookCalls.{EachAccepted, Fed, bookCall, bookAfter, ownValues}
 use Rattle.accuracy.specs.Distance.{groupMargin}
 use Rattle.accuracy.specs.ExactBook.{exact}
+use Rattle.accuracy.specs.CallList.{CallList, accepted, reportedFrom, ExactBook, state}
+use Rattle.accuracy.proofs.AcceptedCalls.{each-accepted-carry}
 
 -- smoothing keeps a margin of what is fed within another: their mean by the weights, and a half for the rounding, is not more
 abbrev pub MarginKept : ℕ → ℕ → Type 0
@@ -83,7 +85,7 @@ module _ (side : Side) (margin kept : ℕ) (keeps : MarginKept margin kept) wher
     NearFed call = Near side (whole (read (call .row))) (call .value) margin
 
     -- at each call that a book with this count accepts
-    abbrev pub NearCalls : ℕ → List (Fed exact) → Type 0
+    abbrev NearCalls : ℕ → List (Fed exact) → Type 0
     NearCalls = EachAccepted (λ call. call .row) NearFed taken
 
     -- the reported book's call, and the exact one's
@@ -127,12 +129,14 @@ module _ (side : Side) (margin kept : ℕ) (keeps : MarginKept margin kept) wher
         let next = call-near call calls book exactBook before near in
         calls-near calls _ _ (next .0) (next .1)
 
-    -- from the empty books on
-    pub books-near :
-        (calls : List (Fed exact)) →
-        NearCalls 0 calls →
-        BookNear side kept
-        (bookAfter reported taken (emptyBook reported) (ownValues read (map (λ call. call .row) calls)))
-        (bookAfter exact taken (emptyBook exact) calls)
-    unfolding emptyBook
-    books-near calls near = calls-near calls (emptyBook reported) (emptyBook exact) empty-near near
+  -- The books of a list: an exact one lies near the reported one, if all that it may be fed at a row that it accepts is near what the reported one reads there.
+  pub exact-book-near :
+      (list : CallList) (read : Row → ℕ) (feeds : Fed exact → Type 0) →
+      ((count : ℕ) (call : Fed exact) → accepted list count (call .row) ≡ true → feeds call → NearFed (accepted list) read call) →
+      (book : ExactBook list feeds) →
+      BookNear side kept (reportedFrom list read) (state list book)
+  unfolding reportedFrom state emptyBook
+  exact-book-near list read feeds near book =
+      rw (book .same-rows) at
+      (calls-near (accepted list) read (book .calls) (emptyBook reported) (emptyBook exact) empty-near
+      (each-accepted-carry (λ call. call .row) feeds (NearFed (accepted list) read) (accepted list) near 0 (book .calls) (book .fed)))

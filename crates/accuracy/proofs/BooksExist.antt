@@ -13,8 +13,8 @@ use Rattle.groups.specs.Exact.{exactGroup}
 use Rattle.observation.specs.BookCalls.{Fed, valueAt}
 use Rattle.accuracy.specs.Distance.{groupMargin, ValueNear}
 use Rattle.accuracy.specs.ExactBook.{exact}
-use Rattle.accuracy.specs.CallList.{CallList, accepted}
-use Rattle.accuracy.specs.Claim.{Worked, WorkedList, Feeds, ExactBook}
+use Rattle.accuracy.specs.CallList.{CallList, accepted, ExactBook}
+use Rattle.accuracy.specs.Claim.{Worked, WorkedList, Feeds}
 use Rattle.accuracy.proofs.AcceptedCalls.{each-accepted-map}
 use Rattle.accuracy.proofs.WorkedRows.{worked-near}
 
@@ -46,7 +46,7 @@ module _ (side : Side) (order : ℕ) where
     feeds count row taken (window, worked) =
         (window, worked, bound-holds side kind _ order _ _ (worked-near kind row window worked list count taken order positive le))
 
-    pub book-exists : WorkedList kind list → ExactBook kind list side order
+    pub book-exists : WorkedList kind list → ExactBook list (Feeds side kind order)
     unfolding WorkedList callAt
     book-exists worked =
         record {

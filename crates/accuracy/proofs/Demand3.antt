@@ -10,10 +10,10 @@ use Rattle.observation.specs.Calls.{bookAt}
 use Rattle.observation.proofs.RecordBooks.{fresh-record-after-system, fresh-record-after-books}
 use Rattle.verdict.proofs.Verdicts.{accepted}
 use Rattle.accuracy.specs.Distance.{EveryOrder}
-use Rattle.accuracy.specs.CallList.{CallList, after}
+use Rattle.accuracy.specs.CallList.{CallList, after, reportedFrom}
 use Rattle.accuracy.specs.Claim.{WorkedList, reportedBook, ListHolds, Demand3Holds}
 use Rattle.accuracy.proofs.GroupDistance.{groups-near}
-use Rattle.accuracy.proofs.WorkedRows.{worked-list-fits, exact-book-near}
+use Rattle.accuracy.proofs.WorkedRows.{worked-list-fits, order-book-near}
 use Rattle.accuracy.proofs.Verdicts.{given-verdict}
 
 module _ (kind : Kind) (list : CallList) (known : isSystem (list .system) ≡ true) (worked : WorkedList kind list) where
@@ -23,7 +23,7 @@ module _ (kind : Kind) (list : CallList) (known : isSystem (list .system) ≡ tr
 
   -- the record holds the reported books
   pub books-kept : EveryOrder (λ order. bookAt (after list) (order - 1) ≡ reportedBook list order)
-  unfolding after reportedBook
+  unfolding after reportedFrom
   books-kept order positive le =
       fresh-record-after-books (list .system) (list .rows) (order - 1) known (omega arith) (worked-list-fits kind list worked)
 
@@ -34,14 +34,14 @@ module _ (kind : Kind) (list : CallList) (known : isSystem (list .system) ≡ tr
         same-system = system-kept;
         same-books = books-kept;
         smoothed-low = λ order positive le book.
-            omega (arith, exact-book-near _ kind list order positive le book .smoothed-near .within);
+            omega (arith, order-book-near _ kind list order positive le book .smoothed-near .within);
         smoothed-high = λ order positive le book.
-            omega (arith, exact-book-near _ kind list order positive le book .smoothed-near .within);
+            omega (arith, order-book-near _ kind list order positive le book .smoothed-near .within);
         verdicts = λ order scale asked.
             let call = accepted (after list) order scale asked in
             let positive : 0 < order = omega arith in
             given-verdict kind list order scale
-            (λ side. exact-book-near side kind list order positive (call .order-le))
+            (λ side. order-book-near side kind list order positive (call .order-le))
             (books-kept order positive (call .order-le))
             asked;
       }

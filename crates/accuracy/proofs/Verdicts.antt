@@ -11,7 +11,7 @@ use Rattle.refusals.specs.Numbers.{noRefusal}
 use Rattle.groups.specs.declared.Kind.{Kind}
 use Rattle.observation.specs.Book.{Book}
 use Rattle.observation.specs.Smoothing.{reported, smoothedMargin}
-use Rattle.observation.specs.Average.{average, averageOf, peakOf}
+use Rattle.observation.specs.Average.{averageOf, peakOf}
 use Rattle.observation.specs.Calls.{bookAt}
 use Rattle.verdict.specs.declared.Verdict.{Verdict}
 use Rattle.verdict.specs.declared.Verdict.the-variants.{Within, Close, Over}
@@ -19,15 +19,15 @@ use Rattle.verdict.specs.Tests.{limitInUnits, peakLimitInUnits}
 use Rattle.verdict.specs.Call.{verdictRefusal, verdictOf}
 use Rattle.verdict.proofs.Verdicts.{Says, verdict-says, verdict-order, accepted-given}
 use Rattle.accuracy.specs.ExactBook.{exact}
-use Rattle.accuracy.specs.Rule.{exactAverage, PeakExceeds}
-use Rattle.accuracy.specs.CallList.{CallList, after}
-use Rattle.accuracy.specs.Claim.{ExactBook, UBook, reportedBook, state, Keeps, GivenVerdict}
+use Rattle.accuracy.specs.Rule.{exactAverage, reportedAverage, PeakExceeds}
+use Rattle.accuracy.specs.CallList.{CallList, after, ExactBook, state}
+use Rattle.accuracy.specs.Claim.{Feeds, UBook, reportedBook, Keeps, GivenVerdict}
 use Rattle.accuracy.proofs.Books.{BookNear}
 
 average-near :
     {side : Side} (kept : ℕ) (book : Book reported) (exactBook : Book exact) →
     BookNear side kept book exactBook →
-    Near side (average (whole (book .sum)) (book .count)) (exactAverage exactBook) kept
+    Near side (reportedAverage book) (exactAverage exactBook) kept
 average-near kept book exactBook near =
     rw (near .same-count)
     (near-divide (max (book .count) 1) kept _ (near-weaken (mul-le-mul-right kept (omega arith)) (near .sum-near)))
@@ -45,18 +45,18 @@ module _ (kind : Kind) (list : CallList) (order scale : ℕ) where
       (h : ℕ) →
       Keeps kind list order scale (Over h) →
       (book other : UBook kind list order) →
-      exactAverage (state kind list book) ≤ᶠ limit →
-      PeakExceeds order scale (state kind list other)
+      exactAverage (state list book) ≤ᶠ limit →
+      PeakExceeds order scale (state list other)
   unfolding Keeps
   over-every-peak h keeps book other le = ⊎-elim (λ over. absurd (omega (arith, over book))) (λ over. over other) keeps
 
   -- what a verdict says of a book's average and peak
   abbrev SaysOf : Book reported → Verdict → Type 0
-  SaysOf book = Says (average (whole (book .sum)) (book .count)) limit (whole (book .peak)) peakLimit
+  SaysOf book = Says (reportedAverage book) limit (whole (book .peak)) peakLimit
 
   module _
-      (near : (side : Side) (book : ExactBook kind list side order) →
-      BookNear side smoothedMargin (reportedBook list order) (state kind list book))
+      (near : (side : Side) (book : ExactBook list (Feeds side kind order)) →
+      BookNear side smoothedMargin (reportedBook list order) (state list book))
     where
       says-keeps : (verdict : Verdict) → SaysOf (reportedBook list order) verdict → Keeps kind list order scale verdict
       unfolding Keeps

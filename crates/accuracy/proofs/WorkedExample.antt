@@ -31,9 +31,10 @@ use Rattle.verdict.specs.declared.Verdict.the-variants.{Within, Close, Over}
 use Rattle.verdict.specs.Limit.{ownFigures, figureIn, limitOf, overOrder}
 use Rattle.verdict.specs.Tests.{limitInUnits, peakLimitInUnits, isWithin, isOver}
 use Rattle.verdict.specs.Call.{combined, verdictOf}
-use Rattle.observation.specs.Average.{average, averageOf, peakOf}
+use Rattle.observation.specs.Average.{averageOf, peakOf}
 use Rattle.accuracy.specs.Distance.{EveryOrder, InRange, valueOf}
-use Rattle.accuracy.specs.CallList.{CallList, after}
+use Rattle.accuracy.specs.Rule.{reportedAverage}
+use Rattle.accuracy.specs.CallList.{CallList, after, reportedFrom}
 use Rattle.accuracy.specs.Claim.{Worked, WorkedList, reportedBook}
 use Rattle.accuracy.proofs.Demand3.{books-kept}
 
@@ -65,7 +66,7 @@ module _ (kind : Kind) (window next : List ℤ) where
 
     -- the refused row isn't counted
     two-windows : after exampleList .windows ≡ 2
-    unfolding reportedBook bookAfter bookCall ownValues accepts rowChecks isSystem exampleList workedRow refusedRow bookStep emptyBook bookAt
+    unfolding reportedFrom bookAfter bookCall ownValues accepts rowChecks isSystem exampleList workedRow refusedRow bookStep emptyBook bookAt
     two-windows = ap (λ (book : Book reported). book .count) (example-books 1 (omega arith) (omega arith))
 
 -- ---- the pulse
@@ -91,7 +92,7 @@ pulsed = after (exampleList HarmonicGroup pulse pulse)
 
 -- the third order after the list
 pulse-book : bookAt pulsed 2 ≡ record { count = 2; smoothed = 8944; sum = 17888; peak = 8944 }
-unfolding reportedBook bookAfter bookCall ownValues accepts rowChecks isSystem exampleList workedRow refusedRow bookStep emptyBook smoothedNext smoothedValue nearest tabulate groupValues
+unfolding reportedFrom bookAfter bookCall ownValues accepts rowChecks isSystem exampleList workedRow refusedRow bookStep emptyBook smoothedNext smoothedValue nearest tabulate groupValues
 pulse-book = example-books HarmonicGroup pulse pulse pulse-window pulse-window 3 (omega arith) (omega arith) ∙ rw pulse-group
 
 -- 2.3 × K is 8930.9, 8933.2, 8953.9 and 8956.2, and 150 % of each is above the peak with the margin
@@ -111,7 +112,7 @@ pulse-verdicts =
     judged : Book reported → ℕ → Verdict
     judged book unitsPerAmpere =
         combined
-        (average (whole (book .sum)) (book .count))
+        (reportedAverage book)
         (limitInUnits 3 unitsPerAmpere)
         (whole (book .peak))
         (peakLimitInUnits 3 unitsPerAmpere)

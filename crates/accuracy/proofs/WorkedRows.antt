@@ -3,7 +3,7 @@
 use mathlib.Core.Path.{_≡_, ap, _∙_}
 use mathlib.Core.Bool.{true}
 use mathlib.Core.List.{List}
-use Prim.Native.Nat.{ℕ, _-_, _<_, _≤_}
+use Prim.Native.Nat.{ℕ, _-_}
 use native.Mathlib.Omega.{arith}
 use lib.IntN.{ℤ}
 use Rattle.algebra.specs.Fraction.{Side, lower, upper, SquareWithin}
@@ -17,14 +17,13 @@ use Rattle.groups.specs.Group.{groupValues}
 use Rattle.groups.specs.Exact.{exactGroup}
 use Rattle.groups.proofs.GroupSum.{group-values-le}
 use Rattle.observation.specs.Smoothing.{smoothedMargin}
-use Rattle.observation.specs.BookCalls.{Fed, valueAt, AcceptedFit}
+use Rattle.observation.specs.BookCalls.{valueAt, AcceptedFit}
 use Rattle.accuracy.specs.Distance.{groupMargin, EveryOrder, valueOf, ValueNear, GroupsNear}
-use Rattle.accuracy.specs.ExactBook.{exact}
-use Rattle.accuracy.specs.CallList.{CallList, accepted}
-use Rattle.accuracy.specs.Claim.{Worked, WorkedList, Feeds, ExactBook, reportedBook, state}
+use Rattle.accuracy.specs.CallList.{CallList, accepted, ExactBook, state}
+use Rattle.accuracy.specs.Claim.{Worked, WorkedList, Feeds, reportedBook}
 use Rattle.accuracy.proofs.GroupDistance.{groups-near}
 use Rattle.accuracy.proofs.AcceptedCalls.{accepted-system, each-accepted-carry}
-use Rattle.accuracy.proofs.Books.{BookNear, NearFed, margins-kept, books-near}
+use Rattle.accuracy.proofs.Books.{BookNear, margins-kept, exact-book-near}
 
 module _ (kind : Kind) (row : Row) (window : List ℤ) (worked : Worked kind row window) where
   worked-fits : ValuesFit row
@@ -65,23 +64,15 @@ square-within :
 square-within lower kind system order window value near = near .not-far-above
 square-within upper kind system order window value near = near .not-far-below
 
-module _ (side : Side) (kind : Kind) (list : CallList) (order : ℕ) (positive : 0 < order) (le : order ≤ orderCount) where
-  -- what the reported book of the order is fed at an accepted call is near what an exact one is
-  abbrev NearAt : Fed exact → Type 0
-  NearAt = NearFed side groupMargin smoothedMargin (margins-kept .0) (accepted list) (valueAt (order - 1))
-
-  fed-near : (count : ℕ) (call : Fed exact) → accepted list count (call .row) ≡ true → Feeds side kind order call → NearAt call
-  unfolding Feeds
-  fed-near count call taken fed =
-      let near = worked-near kind (call .row) (fed .0) (fed .1) list count taken order positive le in
-      near-root side _ groupMargin _ _ (square-within side kind _ order _ _ near) (fed .2)
-
-  pub exact-book-near :
-      (book : ExactBook kind list side order) →
-      BookNear side smoothedMargin (reportedBook list order) (state kind list book)
-  unfolding reportedBook state
-  exact-book-near book =
-      let each =
-      each-accepted-carry (λ call. call .row) (Feeds side kind order) NearAt (accepted list) fed-near 0 (book .calls) (book .fed) in
-      rw (book .same-rows) at
-      (books-near side groupMargin smoothedMargin (margins-kept .0) (accepted list) (valueAt (order - 1)) (book .calls) each)
+-- the exact books of an order are near its reported book
+pub order-book-near :
+    (side : Side) (kind : Kind) (list : CallList) →
+    EveryOrder (λ order.
+    (book : ExactBook list (Feeds side kind order)) →
+    BookNear side smoothedMargin (reportedBook list order) (state list book))
+unfolding Feeds
+order-book-near side kind list order positive le =
+    exact-book-near side groupMargin smoothedMargin (margins-kept .0) list (valueAt (order - 1)) (Feeds side kind order)
+    (λ count call taken fed.
+    let near = worked-near kind (call .row) (fed .0) (fed .1) list count taken order positive le in
+    near-root side _ groupMargin _ _ (square-within side kind _ order _ _ near) (fed .2))

@@ -2,7 +2,7 @@
 use mathlib.Core.Path.{_≡_}
 use mathlib.Core.Bool.{true}
 use mathlib.Core.Logic.{_⊎_}
-use mathlib.Core.List.{List, map}
+use mathlib.Core.List.{List}
 use Prim.Native.Nat.{ℕ, _+_, _-_}
 use lib.IntN.{ℤ}
 use Rattle.algebra.specs.Fraction.{whole, Side, lower, upper, RootBound, _+ᶠ_, _≤ᶠ_}
@@ -13,20 +13,18 @@ use Rattle.rows.specs.Systems.{isSystem}
 use Rattle.groups.specs.declared.Kind.{Kind}
 use Rattle.groups.specs.Group.{groupValues}
 use Rattle.groups.specs.Exact.{exactGroup}
-use Rattle.observation.specs.Book.{Book, emptyBook}
+use Rattle.observation.specs.Book.{Book}
 use Rattle.observation.specs.Smoothing.{reported, smoothedMargin}
 use Rattle.observation.specs.Calls.{bookAt}
-use Rattle.observation.specs.BookCalls.{EachAccepted, Fed, bookAfter, ownValues, valueAt}
-use Rattle.observation.specs.Average.{average}
+use Rattle.observation.specs.BookCalls.{EachAccepted, Fed, valueAt}
 use Rattle.verdict.specs.declared.Verdict.{Verdict}
 use Rattle.verdict.specs.declared.Verdict.the-variants.{Within, Close, Over}
 use Rattle.verdict.specs.declared.Answered.the-variants.{Given}
-use Rattle.verdict.specs.Tests.{limitInUnits, peakLimitInUnits, Touches}
 use Rattle.verdict.specs.Call.{verdictRefusal, verdictAnswer, orderNumber}
 use Rattle.accuracy.specs.Distance.{EveryOrder, InRange, GroupsNear}
 use Rattle.accuracy.specs.ExactBook.{exact}
-use Rattle.accuracy.specs.Rule.{Passes, AverageExceeds, PeakExceeds}
-use Rattle.accuracy.specs.CallList.{CallList, after, accepted}
+use Rattle.accuracy.specs.Rule.{Passes, AverageExceeds, PeakExceeds, AverageTouches, PeakTouches}
+use Rattle.accuracy.specs.CallList.{CallList, after, accepted, reportedFrom, ExactBook, state}
 
 -- a row is worked from samples if, with its system, it holds the 40 values of the kind that are answered for the lines of one window in range
 pub record Worked (kind : Kind) (row : Row) (window : List ℤ) : Type 0 where
@@ -45,38 +43,26 @@ Feeds side kind order call =
     Worked kind (call .row) window ×
     RootBound side (call .value) (exactGroup kind (call .row .system) order window)
 
--- the reported book of an order: "fed the row's own value and rounding"
-unfoldable pub reportedBook : CallList → ℕ → Book reported
-reportedBook list order = bookAfter reported (accepted list) (emptyBook reported) (ownValues (valueAt (order - 1)) (list .rows))
+-- the reported book of an order reads the row's value at its place
+abbrev pub reportedBook : CallList → ℕ → Book reported
+reportedBook list order = reportedFrom list (valueAt (order - 1))
 
 module _ (kind : Kind) (list : CallList) where
-  -- an exact book of an order, fed at the same rows
-  pub record ExactBook (side : Side) (order : ℕ) : Type 0 where
-    pub calls : List (Fed exact)
-    pub same-rows : map (λ call. call .row) calls ≡ list .rows
-    pub fed : EachAccepted (λ call. call .row) (Feeds side kind order) (accepted list) 0 calls
-
-  -- document 01's l books and u books
+  -- document 01's l books and u books of an order
   abbrev pub LBook : ℕ → Type 0
-  LBook = ExactBook lower
+  LBook order = ExactBook list (Feeds lower kind order)
 
   abbrev pub UBook : ℕ → Type 0
-  UBook = ExactBook upper
-
-  -- the state of an exact book after the calls
-  unfoldable pub state : {side : Side} {order : ℕ} → ExactBook side order → Book exact
-  state book = bookAfter exact (accepted list) (emptyBook exact) (book .calls)
+  UBook order = ExactBook list (Feeds upper kind order)
 
   -- what each verdict claims of the exact books, or of the reported one
   unfoldable pub Keeps : ℕ → ℕ → Verdict → Type 0
-  Keeps order scale (Within h) = (book : LBook order) → Passes order scale (state book)
+  Keeps order scale (Within h) = (book : LBook order) → Passes order scale (state list book)
   Keeps order scale (Over h) =
-      ((book : UBook order) → AverageExceeds order scale (state book)) ⊎
-      ((book : UBook order) → PeakExceeds order scale (state book))
+      ((book : UBook order) → AverageExceeds order scale (state list book)) ⊎
+      ((book : UBook order) → PeakExceeds order scale (state list book))
   Keeps order scale (Close h) =
-      let book = reportedBook list order in
-      Touches (average (whole (book .sum)) (book .count)) (limitInUnits order scale) ⊎
-      Touches (whole (book .peak)) (peakLimitInUnits order scale)
+      AverageTouches order scale (reportedBook list order) ⊎ PeakTouches order scale (reportedBook list order)
 
   -- a verdict is given, for the order that was asked, and it keeps its claim
   pub record GivenVerdict (order scale : ℕ) : Type 0 where
@@ -92,9 +78,9 @@ module _ (kind : Kind) (list : CallList) where
     pub same-books : EveryOrder (λ order. bookAt (after list) (order - 1) ≡ reportedBook list order)
     -- smoothed is at least the smoothing of the l less 12, and at most that of the u plus 12
     pub smoothed-low : EveryOrder (λ order.
-        (book : LBook order) → state book .smoothed ≤ᶠ whole (reportedBook list order .smoothed + smoothedMargin))
+        (book : LBook order) → state list book .smoothed ≤ᶠ whole (reportedBook list order .smoothed + smoothedMargin))
     pub smoothed-high : EveryOrder (λ order.
-        (book : UBook order) → whole (reportedBook list order .smoothed) ≤ᶠ state book .smoothed +ᶠ whole smoothedMargin)
+        (book : UBook order) → whole (reportedBook list order .smoothed) ≤ᶠ state list book .smoothed +ᶠ whole smoothedMargin)
     -- for every order and K that is not refused one of the three verdicts is given and keeps its claim
     pub verdicts : (order scale : ℕ) → verdictRefusal (after list) order scale ≡ noRefusal → GivenVerdict order scale
 

@@ -14,8 +14,8 @@ use Rattle.verdict.specs.declared.Verdict.{Verdict}
 use Rattle.observation.specs.Smoothing.{smoothedMargin}
 use Rattle.verdict.specs.Call.{orderNumber}
 use Rattle.accuracy.specs.Distance.{EveryOrder, ValueNear}
-use Rattle.accuracy.specs.CallList.{CallList, after}
-use Rattle.accuracy.specs.Claim.{Worked, WorkedList, LBook, UBook, state, Keeps, ListHolds}
+use Rattle.accuracy.specs.CallList.{CallList, after, state}
+use Rattle.accuracy.specs.Claim.{Worked, WorkedList, LBook, UBook, Keeps, ListHolds}
 use Rattle.kifsang.specs.Kinds.{kindWith}
 use Rattle.kifsang.specs.GroupCalls.{groupCallRefusal, groupCallExit, rowCallRefusal, rowCallExit}
 use Rattle.kifsang.specs.Words.{smoothedPlace, recordWords, wordsOf}
@@ -40,9 +40,9 @@ pub record WordsHold (kind : Kind) (list : CallList) (words : List ℕ) : Type 0
   pub claimed : ListHolds kind list
   -- smoothed is at least the smoothing of the l less 12, and at most that of the u plus 12
   pub smoothed-low : EveryOrder (λ order.
-      (book : LBook kind list order) → state kind list book .smoothed ≤ᶠ whole (smoothedWord words order + smoothedMargin))
+      (book : LBook kind list order) → state list book .smoothed ≤ᶠ whole (smoothedWord words order + smoothedMargin))
   pub smoothed-high : EveryOrder (λ order.
-      (book : UBook kind list order) → whole (smoothedWord words order) ≤ᶠ state kind list book .smoothed +ᶠ whole smoothedMargin)
+      (book : UBook kind list order) → whole (smoothedWord words order) ≤ᶠ state list book .smoothed +ᶠ whole smoothedMargin)
   pub verdicts :
       (order unitsPerAmpere : ℕ) →
       verdictCallRefusal words order unitsPerAmpere ≡ noRefusal →

@@ -25,8 +25,8 @@ use Rattle.verdict.specs.declared.Verdict.the-variants.{Within, Close, Over}
 use Rattle.verdict.specs.Limit.{ownFigures, figureIn, limitOf, overOrder}
 use Rattle.verdict.specs.Tests.{limitInUnits, peakLimitInUnits}
 use Rattle.accuracy.specs.Distance.{InRange, GroupsNear}
-use Rattle.accuracy.specs.CallList.{CallList, after}
-use Rattle.accuracy.specs.Claim.{WorkedList, LBook, UBook, reportedBook, state, Keeps}
+use Rattle.accuracy.specs.CallList.{CallList, after, state}
+use Rattle.accuracy.specs.Claim.{WorkedList, LBook, UBook, reportedBook, Keeps}
 use Rattle.accuracy.proofs.Demand3.{demand3}
 use Rattle.kifsang.specs.Kinds.{kinds, kindWith}
 use Rattle.kifsang.specs.GroupCalls.{groupCallRefusal, groupCallExit}
@@ -81,8 +81,8 @@ called-within-7 recording start buffer system order before taken asked =
 abbrev Within12 : Kind → CallList → ℕ → ℕ → Type 0
 Within12 kind list order s =
     (l : LBook kind list order) (u : UBook kind list order) →
-    let low = state kind list l .smoothed in
-    let high = state kind list u .smoothed in
+    let low = state list l .smoothed in
+    let high = state list u .smoothed in
     (low .num ≤ (s + 12) * low .den) × (s * high .den ≤ high .num + 12 * high .den)
 
 -- after any list of calls of the library
@@ -108,7 +108,7 @@ module _ (kind : Kind) (list : CallList) (k : ℕ) where
   abbrev SaysWithin : Type 0
   SaysWithin =
       (l : LBook kind list 3) →
-      let book = state kind list l in
+      let book = state list l in
       (book .sum .num * 1000 ≤ 2300 * k * (max (book .count) 1 * book .sum .den)) ×
       (book .peak .num * 2000 ≤ 6900 * k * book .peak .den)
 
@@ -124,9 +124,9 @@ module _ (kind : Kind) (list : CallList) (k : ℕ) where
   abbrev SaysOver : Type 0
   SaysOver =
       ((u : UBook kind list 3) →
-      let book = state kind list u in 2300 * k * (max (book .count) 1 * book .sum .den) < book .sum .num * 1000) ⊎
+      let book = state list u in 2300 * k * (max (book .count) 1 * book .sum .den) < book .sum .num * 1000) ⊎
       ((u : UBook kind list 3) →
-      let book = state kind list u in 6900 * k * book .peak .den < book .peak .num * 2000)
+      let book = state list u in 6900 * k * book .peak .den < book .peak .num * 2000)
 
   -- the number is one of the three, and tells what stands with it
   abbrev NumberSays : ℕ → Type 0
