@@ -15,7 +15,7 @@ use Rattle.accuracy.specs.CallList.{CallList, accepted}
 pub accepted-system : (list : CallList) (count : ℕ) (row : Row) → accepted list count row ≡ true → isSystem (row .system) ≡ true
 unfolding accepts rowChecks
 accepted-system list count row e =
-    not-false _ (no-faults (rowChecks (list .system) count row) refl (eqb-true _ _ e) unknownSystem)
+    not-false _ (no-faults (rowChecks _ count row) refl (eqb-true _ _ e) unknownSystem)
 
 -- calls made one by one of others
 module _
