@@ -33,7 +33,7 @@ use Rattle.rows.specs.Systems.{isSystem}
 use Rattle.rows.specs.Orders.{orderCount, isOrder}
 use Rattle.groups.proofs.GroupSum.{group-sum-lt}
 use Rattle.groups.proofs.Weights.{totalTwiceWeight, largestTotal, weights-total-le, weights-line-lt, weightedSum-eq}
-use Rattle.accuracy.specs.Distance.{InRange, GroupsNear, groupMargin}
+use Rattle.accuracy.specs.Distance.{EveryOrder, InRange, GroupsNear, groupMargin}
 
 module _ (window : List ℤ) where
   -- the two places of a line
@@ -79,7 +79,11 @@ module _ (window : List ℤ) where
       (cosine-sum-near window in-range (x .line), (sine-sum-near window in-range (x .line), near-placesOf in-range xs))
 
   -- any lines whose weights total at most 24 meet the hypotheses of the norm bound, with 6 for the norm of the differences
-  near-vector : anyOf outOfRange window ≡ false → (xs : List Weighted) → totalTwiceWeight xs ≤ largestTotal → NearVector (placesOf xs) denominator 3 4 (2 * largestTotal) 1 6
+  near-vector :
+      anyOf outOfRange window ≡ false →
+      (xs : List Weighted) →
+      totalTwiceWeight xs ≤ largestTotal →
+      NearVector (placesOf xs) denominator 3 4 (2 * largestTotal) 1 6
   near-vector in-range xs total = record {
     exact-denominator-pos = denominator-pos;
     distance-denominator-pos = omega arith;
@@ -89,7 +93,14 @@ module _ (window : List ℤ) where
   }
 
   -- so the whole part of the root of their sum is within 7 of the exact one
-  within-seven : anyOf outOfRange window ≡ false → (xs : List Weighted) → totalTwiceWeight xs ≤ largestTotal → (sum : ℕ) → sum ≡ weightedSum (lineOf window) xs → sum < rootLimit → WithinUnits 1 (weightedSum (exactLine window) xs) denominator (rootOf sum) groupMargin
+  within-seven :
+      anyOf outOfRange window ≡ false →
+      (xs : List Weighted) →
+      totalTwiceWeight xs ≤ largestTotal →
+      (sum : ℕ) →
+      sum ≡ weightedSum (lineOf window) xs →
+      sum < rootLimit →
+      WithinUnits 1 (weightedSum (exactLine window) xs) denominator (rootOf sum) groupMargin
   within-seven in-range xs total sum same small =
       rw (exactSquares-placesOf xs) at
       (norm-within (near-vector in-range xs total) (rootOf sum)
@@ -99,17 +110,26 @@ module _ (window : List ℤ) where
       }))
 
 -- the lines of a window in range are not refused
-pub lines-accepted : (system order : ℕ) (window : List ℤ) → isSystem system ≡ true → isOrder order ≡ true → InRange window → groupRefusal system order (linesOf window) ≡ noRefusal
+pub lines-accepted :
+    (system order : ℕ) (window : List ℤ) →
+    isSystem system ≡ true →
+    isOrder order ≡ true →
+    InRange window →
+    groupRefusal system order (linesOf window) ≡ noRefusal
 unfolding groupRefusal
 lines-accepted system order window known-system known-order in-range =
     rw (known-system, known-order, eq-eqb _ _ (length-linesOf window), no-line-too-large window (in-range .samples))
 
-is-order : (order : ℕ) → 0 < order → order ≤ orderCount → isOrder order ≡ true
+is-order : EveryOrder (λ order. isOrder order ≡ true)
 unfolding isOrder
 is-order order above-zero at-most = rw (lt-ltb 0 order above-zero, le-leb order orderCount at-most)
 
 -- the lines of a group stand in the spectrum
-pub lines-of-group : (kind : Kind) (system order : ℕ) (window : List ℤ) → isSystem system ≡ true → isOrder order ≡ true → weightedSum (lineAt (linesOf window)) (weightsOf kind system order) ≡ weightedSum (lineOf window) (weightsOf kind system order)
+pub lines-of-group :
+    (kind : Kind) (system order : ℕ) (window : List ℤ) →
+    isSystem system ≡ true →
+    isOrder order ≡ true →
+    weightedSum (lineAt (linesOf window)) (weightsOf kind system order) ≡ weightedSum (lineOf window) (weightsOf kind system order)
 lines-of-group kind system order window known-system known-order =
     let xs = weightsOf kind system order in
     weightedSum-eq _ _ xs
@@ -118,7 +138,7 @@ lines-of-group kind system order window known-system known-order =
 
 pub groups-near : GroupsNear
 unfolding GroupsNear groupAnswer groupValue exactGroup exactGroupNumerator whole Fraction.square
-groups-near kind system order window known-system above-zero at-most in-range =
+groups-near kind system window known-system in-range order above-zero at-most =
     let xs = weightsOf kind system order in
     let known-order = is-order order above-zero at-most in
     let accepted = lines-accepted system order window known-system known-order in-range in

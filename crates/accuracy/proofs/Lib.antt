@@ -1,7 +1,7 @@
 -- The theorem of demand 3.
 pub mod GroupDistance
-pub mod Books
 pub mod AcceptedCalls
+pub mod Books
 pub mod WorkedRows
 pub mod Verdicts
 pub mod Demand3

@@ -1,9 +1,8 @@
 -- A worked list of calls, with a refused one between two accepted ones. It meets the hypotheses of demand 3 for every kind and any two windows in range.
 -- Of the pulse's harmonic groups, document 01's 8944, the third order is then judged over, close and within at K = 3883, 3884 .. 3893 and 3894.
 use mathlib.Core.Path.{_≡_, refl, sym, ap, subst, fun-ext, _∙_}
-use mathlib.Core.Bool.{true}
 use mathlib.Core.List.{List, [], _∷_}
-use Prim.Native.Nat.{ℕ}
+use Prim.Native.Nat.{ℕ, _-_}
 use native.Mathlib.Omega.{arith}
 use lib.IntN.{ℤ}
 use lib.ListN.{replicate}
@@ -22,6 +21,7 @@ use Rattle.groups.specs.Group.{groupValue, groupRefusal, groupAnswer, groupValu
 use Rattle.rows.specs.Systems.{isSystem}
 use Rattle.rows.specs.Orders.{orderCount, isOrder}
 use Rattle.rows.specs.declared.Row.{Row}
+use Rattle.observation.specs.declared.Observation.{Observation}
 use Rattle.observation.specs.Book.{Book, emptyBook, smoothedNext, bookStep}
 use Rattle.observation.specs.Smoothing.{smoothedValue, reported}
 use Rattle.observation.specs.Calls.{rowChecks, bookAt}
@@ -31,14 +31,12 @@ use Rattle.verdict.specs.declared.Verdict.the-variants.{Within, Close, Over}
 use Rattle.verdict.specs.Limit.{ownFigures, figureIn, limitOf, overOrder}
 use Rattle.verdict.specs.Tests.{limitInUnits, peakLimitInUnits, isWithin, isOver}
 use Rattle.verdict.specs.Call.{combined, verdictOf}
-use Rattle.observation.specs.Average.{average, averageOf, peakOf}
-use Rattle.accuracy.specs.Distance.{InRange, valueOf}
-use Rattle.accuracy.specs.Claim.{Worked, WorkedList, after, reportedBook}
+use Rattle.observation.specs.Average.{averageOf, peakOf}
+use Rattle.accuracy.specs.Distance.{EveryOrder, InRange, valueOf}
+use Rattle.accuracy.specs.Rule.{reportedAverage}
+use Rattle.accuracy.specs.CallList.{CallList, after, reportedFrom}
+use Rattle.accuracy.specs.Claim.{Worked, WorkedList, reportedBook}
 use Rattle.accuracy.proofs.Demand3.{books-kept}
-
-known : isSystem 10 ≡ true
-unfolding isSystem
-known = refl
 
 unfoldable pub workedRow : Kind → List ℤ → Row
 workedRow kind window = record { system = 10; values = groupValues kind 10 (linesOf window) }
@@ -52,20 +50,24 @@ unfoldable pub refusedRow : Row
 refusedRow = record { system = 12; values = replicate orderCount 1 }
 
 module _ (kind : Kind) (window next : List ℤ) where
-  unfoldable pub workedRows : List Row
-  workedRows = workedRow kind window ∷ refusedRow ∷ workedRow kind next ∷ []
+  unfoldable pub exampleList : CallList
+  exampleList =
+      record { system = 10; rows = workedRow kind window ∷ refusedRow ∷ workedRow kind next ∷ [] }
 
   module _ (in-range : InRange window) (next-in-range : InRange next) where
-    pub worked-rows : WorkedList kind 10 workedRows
-    unfolding WorkedList EachAccepted accepts rowChecks isSystem workedRows workedRow refusedRow
-    worked-rows = ((window, worked-row kind window in-range), ((next, worked-row kind next next-in-range), tt))
+    pub example-worked : WorkedList kind exampleList
+    unfolding WorkedList EachAccepted accepts rowChecks isSystem exampleList workedRow refusedRow
+    example-worked = ((window, worked-row kind window in-range), ((next, worked-row kind next next-in-range), tt))
+
+    -- the record holds the reported books
+    example-books : EveryOrder (λ order. bookAt (after exampleList) (order - 1) ≡ reportedBook exampleList order)
+    unfolding isSystem exampleList
+    example-books = books-kept kind exampleList refl example-worked
 
     -- the refused row isn't counted
-    two-windows : after kind 10 workedRows .windows ≡ 2
-    unfolding reportedBook bookAfter bookCall ownValues accepts rowChecks isSystem workedRows workedRow refusedRow bookStep emptyBook bookAt
-    two-windows =
-        ap (λ (book : Book reported). book .count)
-        (books-kept kind 10 known workedRows worked-rows 1 (omega arith) (omega arith))
+    two-windows : after exampleList .windows ≡ 2
+    unfolding reportedFrom bookAfter bookCall ownValues accepts rowChecks isSystem exampleList workedRow refusedRow bookStep emptyBook bookAt
+    two-windows = ap (λ (book : Book reported). book .count) (example-books 1 (omega arith) (omega arith))
 
 -- ---- the pulse
 
@@ -84,15 +86,21 @@ pulse-value = refl
 pulse-group : valueOf HarmonicGroup 10 3 pulse ≡ 8944
 pulse-group = ap (λ (lines : List ℕ). groupAnswer HarmonicGroup 10 3 lines .value) pulse-lines ∙ pulse-value
 
--- the third order after the list
-pulse-book : bookAt (after HarmonicGroup 10 (workedRows HarmonicGroup pulse pulse)) 2 ≡ record { count = 2; smoothed = 8944; sum = 17888; peak = 8944 }
-unfolding reportedBook bookAfter bookCall ownValues accepts rowChecks isSystem workedRows workedRow refusedRow bookStep emptyBook smoothedNext smoothedValue nearest tabulate groupValues
-pulse-book =
-    books-kept HarmonicGroup 10 known (workedRows HarmonicGroup pulse pulse) (worked-rows HarmonicGroup pulse pulse pulse-window pulse-window) 3 (omega arith) (omega arith) ∙
-    rw pulse-group
+-- the record after the pulse twice
+abbrev pulsed : Observation
+pulsed = after (exampleList HarmonicGroup pulse pulse)
 
--- 2.3 × K is 8930.9, 8933.2, 8953.9 and 8956.2, and 150 % of each is above the peak with the band
-pulse-verdicts : let o = after HarmonicGroup 10 (workedRows HarmonicGroup pulse pulse) in (verdictOf o 3 3883 ≡ Over 3) × (verdictOf o 3 3884 ≡ Close 3) × (verdictOf o 3 3893 ≡ Close 3) × (verdictOf o 3 3894 ≡ Within 3)
+-- the third order after the list
+pulse-book : bookAt pulsed 2 ≡ record { count = 2; smoothed = 8944; sum = 17888; peak = 8944 }
+unfolding reportedFrom bookAfter bookCall ownValues accepts rowChecks isSystem exampleList workedRow refusedRow bookStep emptyBook smoothedNext smoothedValue nearest tabulate groupValues
+pulse-book = example-books HarmonicGroup pulse pulse pulse-window pulse-window 3 (omega arith) (omega arith) ∙ rw pulse-group
+
+-- 2.3 × K is 8930.9, 8933.2, 8953.9 and 8956.2, and 150 % of each is above the peak with the margin
+pulse-verdicts :
+    (verdictOf pulsed 3 3883 ≡ Over 3) ×
+    (verdictOf pulsed 3 3884 ≡ Close 3) ×
+    (verdictOf pulsed 3 3893 ≡ Close 3) ×
+    (verdictOf pulsed 3 3894 ≡ Within 3)
 unfolding verdictOf averageOf peakOf bookAt combined isOver isWithin limitInUnits peakLimitInUnits limitOf figureIn ownFigures overOrder whole _+ᶠ_ scale divide
 pulse-verdicts =
     subst
@@ -104,7 +112,7 @@ pulse-verdicts =
     judged : Book reported → ℕ → Verdict
     judged book unitsPerAmpere =
         combined
-        (average (whole (book .sum)) (book .count))
+        (reportedAverage book)
         (limitInUnits 3 unitsPerAmpere)
         (whole (book .peak))
         (peakLimitInUnits 3 unitsPerAmpere)

@@ -20,6 +20,10 @@ use Rattle.groups.specs.Exact.{exactGroup}
 abbrev pub groupMargin : ℕ
 groupMargin = 7
 
+-- for every order 1..40
+abbrev pub EveryOrder : (ℕ → Type 0) → Type 0
+EveryOrder holds = (order : ℕ) → 0 < order → order ≤ orderCount → holds order
+
 -- a window in range: all its 2,048 samples are
 pub record InRange (window : List ℤ) : Type 0 where
   pub whole-window : length window ≡ windowLength
@@ -42,9 +46,7 @@ pub record GroupNear (kind : Kind) (system order : ℕ) (window : List ℤ) : Ty
 -- "for every window in range, every kind, order and system"
 unfoldable pub GroupsNear : Type 0
 GroupsNear =
-    (kind : Kind) (system order : ℕ) (window : List ℤ) →
+    (kind : Kind) (system : ℕ) (window : List ℤ) →
     isSystem system ≡ true →
-    0 < order →
-    order ≤ orderCount →
     InRange window →
-    GroupNear kind system order window
+    EveryOrder (λ order. GroupNear kind system order window)

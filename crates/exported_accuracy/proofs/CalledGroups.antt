@@ -41,7 +41,7 @@ called-group recording start buffer number system order before taken asked =
     let call = accepted system order lines passed in
     let bounds = order-bounds order (call .known-order) in
     let in-range = window-in-range recording start buffer taken in
-    let near = groups-near (kindWith number) system order window (call .known-system) (omega arith) (bounds .1) in-range in
+    let near = groups-near (kindWith number) system window (call .known-system) in-range order (omega arith) (bounds .1) in
     let value = accepted-value (kindWith number) system order lines passed in
     rw (asked, left, ← value) (near .value-near)
 

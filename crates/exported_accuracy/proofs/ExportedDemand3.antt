@@ -15,17 +15,18 @@ use Rattle.observation.specs.Smoothing.{reported}
 use Rattle.observation.specs.declared.Observation.{Observation}
 use Rattle.observation.specs.Calls.{bookAt}
 use Rattle.verdict.specs.Call.{verdictRefusal}
-use Rattle.accuracy.specs.Claim.{WorkedList, ListHolds, after, reportedBook}
+use Rattle.accuracy.specs.Distance.{EveryOrder}
+use Rattle.accuracy.specs.CallList.{CallList, after}
+use Rattle.accuracy.specs.Claim.{WorkedList, ListHolds, reportedBook}
 use Rattle.accuracy.proofs.Demand3.{demand3}
 use Rattle.kifsang.specs.Refusals.{wordCountCheck}
-use Rattle.kifsang.specs.Words.{recordWords, recordOf, wordsOf}
+use Rattle.kifsang.specs.Words.{recordWords, wordsOf}
 use Rattle.kifsang.specs.RecordCalls.{verdictCallRefusal, verdictCallExit}
 use Rattle.kifsang.proofs.Handed.{own-first-none}
-use Rattle.kifsang.proofs.RecordWords.{record-of-words}
 use Rattle.kifsang.proofs.VerdictCases.{given-case}
-use Rattle.exported_accuracy.specs.Calls.{Begun, wordsAfter}
+use Rattle.exported_accuracy.specs.Calls.{wordsAfter}
 use Rattle.exported_accuracy.specs.Claim.{smoothedWord, CalledVerdict, WordsHold, ExportedDemand3Holds}
-use Rattle.exported_accuracy.proofs.WordsFollow.{Follows, FollowsBegun, Whole, list-whole, calls-follow}
+use Rattle.exported_accuracy.proofs.WordsFollow.{Follows, FollowsBegun, after-whole, record-held, calls-follow}
 use Rattle.exported_accuracy.proofs.CalledGroups.{called-group, called-row}
 
 -- the word of an order's smoothed value
@@ -43,37 +44,18 @@ smoothed-word o order whole positive le =
     (ap (λ (l : List ℕ). getD l (order - 1) 0) (append-assoc (o .smoothed) (o .sum) (o .peak)) ∙
     List·getD-append (o .smoothed) (o .sum ++ o .peak) 0 (order - 1) inside)
 
--- the record after the list
-abbrev recordAt : Kind → Begun → Observation
-recordAt kind list = after kind (list .system) (list .rows)
-
 module _
-    (kind : Kind) (list : Begun) (words : List ℕ)
-    (follows : Follows list words) (worked : WorkedList kind (list .system) (list .rows))
+    (kind : Kind) (list : CallList) (words : List ℕ)
+    (follows : Follows list words) (worked : WorkedList kind list)
   where
-    words-held : words ≡ wordsOf (recordAt kind list)
-    unfolding after
-    words-held = follows .held
+    claimed : ListHolds kind list
+    claimed = demand3 .lists kind list (follows .known) worked
 
-    parts : Whole (recordAt kind list)
-    unfolding after
-    parts = list-whole list (follows .known)
-
-    record-held : recordOf words ≡ recordAt kind list
-    record-held = ap recordOf words-held ∙ record-of-words (recordAt kind list) (parts .smoothed) (parts .sum) (parts .peak)
-
-    claimed : ListHolds kind (list .system) (list .rows)
-    claimed = demand3 .lists kind (list .system) (follows .known) (list .rows) worked
-
-    smoothed-held :
-        (order : ℕ) →
-        0 < order →
-        order ≤ orderCount →
-        smoothedWord words order ≡ reportedBook kind (list .system) (list .rows) order .smoothed
+    smoothed-held : EveryOrder (λ order. smoothedWord words order ≡ reportedBook list order .smoothed)
     unfolding bookAt
     smoothed-held order positive le =
-        ap (λ (l : List ℕ). smoothedWord l order) words-held ∙
-        (smoothed-word (recordAt kind list) order (parts .smoothed) positive le ∙
+        rw (follows .held)
+        (smoothed-word (after list) order (after-whole list (follows .known) .smoothed) positive le ∙
         ap (λ (book : Book reported). book .smoothed) (claimed .same-books order positive le))
 
     called-verdict :
@@ -82,22 +64,23 @@ module _
         CalledVerdict kind list words order unitsPerAmpere
     unfolding verdictCallRefusal verdictCallExit
     called-verdict order unitsPerAmpere asked =
-        let o = recordAt kind list in
+        let o = after list in
+        let held = record-held list words follows in
         let passed : verdictRefusal o order unitsPerAmpere ≡ noRefusal =
-        own-first-none (firstFault (wordCountCheck recordWords words ∷ [])) _ (rw record-held at asked) in
+        own-first-none (firstFault (wordCountCheck recordWords words ∷ [])) _ (rw held at asked) in
         let given = claimed .verdicts order unitsPerAmpere passed in
         let same = given-case o order unitsPerAmpere (given .verdict) (given .given) .1 in
         record {
           verdict = given .verdict;
           of-order = given .of-order;
-          number = λ before. rw (asked, record-held, same);
+          number = λ before. rw (asked, held, same);
           kept = given .kept;
         }
 
     pub words-hold : WordsHold kind list words
     words-hold =
         record {
-          held = words-held;
+          held = follows .held;
           claimed = claimed;
           smoothed-low = λ order positive le book. rw (smoothed-held order positive le) (claimed .smoothed-low order positive le book);
           smoothed-high = λ order positive le book. rw (smoothed-held order positive le) (claimed .smoothed-high order positive le book);

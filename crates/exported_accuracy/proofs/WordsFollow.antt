@@ -1,6 +1,6 @@
 -- The words of a record follow the list of document 01 that the calls have come to.
 -- The invariant: before the first fresh record there are 122 words, any; after it they are the words of the record after the list.
-use mathlib.Core.Path.{_≡_, refl, sym, ap, _∙_}
+use mathlib.Core.Path.{_≡_, refl, sym, ap}
 use mathlib.Core.Bool.{Bool, true, false, cond, not}
 use mathlib.Core.List.{List, [], _∷_, _++_, append-nil}
 use mathlib.Core.Option.{Option, none, some}
@@ -18,16 +18,31 @@ use Rattle.rows.specs.Systems.{isSystem}
 use Rattle.rows.specs.Orders.{orderCount}
 use Rattle.rows.specs.declared.Row.{Row}
 use Rattle.observation.specs.declared.Observation.{Observation}
-use Rattle.observation.specs.Calls.{emptyRecord, freshRefusal, freshAnswer, withRow, addRowRefusal, addRowAnswer}
+use Rattle.observation.specs.Calls.{emptyRecord, freshRefusal, withRow, addRowRefusal, addRowAnswer}
 use Rattle.observation.specs.RecordAfter.{recordAfter}
 use Rattle.observation.proofs.RecordAfter.{record-after-snoc}
 use Rattle.observation.proofs.SoundRecord.{fresh-of-known}
+use Rattle.accuracy.specs.CallList.{CallList, after}
 use Rattle.kifsang.specs.Refusals.{wrongWordCount, ownFirst}
 use Rattle.kifsang.specs.Words.{recordWords, recordOf, wordsOf}
 use Rattle.kifsang.specs.RecordCalls.{lentRow, freshCallRefusal, freshCallExit, addRowCallRefusal, addRowCallExit}
 use Rattle.kifsang.proofs.RecordWords.{record-of-words}
-use Rattle.exported_accuracy.specs.Calls.{Asked, freshRecord, addRow, askVerdict, Call, Begun}
+use Rattle.exported_accuracy.specs.Calls.{Asked, freshRecord, addRow, askVerdict, Call}
 use Rattle.exported_accuracy.specs.Calls.{leftBy, wordsAtExit, wordsAfter, withCall, listAsked, listAtExit, listAfter}
+
+-- ---- what a call leaves
+
+-- what holds on success and on a refusal holds of what a call leaves
+by-refusal :
+    {A : Type 0} (P : A → Type 0) (refusal : ℕ) {accepted unchanged : A} →
+    P accepted →
+    P unchanged →
+    P (unlessRefused refusal accepted unchanged)
+by-refusal P refusal {accepted} {unchanged} success refused = either (eqb refusal noRefusal)
+  where
+    either : (none : Bool) → P (cond none accepted unchanged)
+    either true = success
+    either false = refused
 
 -- ---- records with 40 values in each part
 
@@ -49,18 +64,11 @@ with-row-whole o row =
       peak = length-tabulate orderCount _;
     }
 
-answer-whole : (o : Observation) (row : Row) → Whole o → Whole (addRowAnswer o row .observation)
-unfolding addRowAnswer
-answer-whole o row before = either (eqb (addRowRefusal o row) noRefusal)
-  where
-    either : (worked : Bool) → Whole (cond worked (withRow o row) o)
-    either true = with-row-whole o row
-    either false = before
-
 record-after-whole : (o : Observation) (rows : List Row) → Whole o → Whole (recordAfter o rows)
-unfolding recordAfter
+unfolding recordAfter addRowAnswer
 record-after-whole o [] before = before
-record-after-whole o (row ∷ rows) before = record-after-whole (addRowAnswer o row .observation) rows (answer-whole o row before)
+record-after-whole o (row ∷ rows) before =
+    record-after-whole (addRowAnswer o row .observation) rows (by-refusal Whole (addRowRefusal o row) (with-row-whole o row) before)
 
 words-length : (o : Observation) → Whole o → length (wordsOf o) ≡ recordWords
 unfolding wordsOf
@@ -68,32 +76,35 @@ words-length o parts = simp length-append (omega arith)
 
 -- ---- the invariant
 
--- the record after a list
-abbrev recordOfList : Begun → Observation
-recordOfList list = recordAfter (freshAnswer (list .system) .observation) (list .rows)
-
-pub record Follows (list : Begun) (words : List ℕ) : Type 0 where
+pub record Follows (list : CallList) (words : List ℕ) : Type 0 where
   pub known : isSystem (list .system) ≡ true
-  pub held : words ≡ wordsOf (recordOfList list)
+  pub held : words ≡ wordsOf (after list)
 
-abbrev pub FollowsBegun : Option Begun → List ℕ → Type 0
+abbrev pub FollowsBegun : Option CallList → List ℕ → Type 0
 FollowsBegun none words = length words ≡ recordWords
 FollowsBegun (some list) words = Follows list words
 
-pub list-whole : (list : Begun) → isSystem (list .system) ≡ true → Whole (recordOfList list)
-list-whole list known = record-after-whole _ (list .rows) (rw (fresh-of-known (list .system) known) (empty-whole (list .system)))
+pub after-whole : (list : CallList) → isSystem (list .system) ≡ true → Whole (after list)
+unfolding after
+after-whole list known = record-after-whole _ (list .rows) (rw (fresh-of-known (list .system) known) (empty-whole (list .system)))
 
-follows-length : (begun : Option Begun) (words : List ℕ) → FollowsBegun begun words → length words ≡ recordWords
+-- the words hold the record after the list
+pub record-held : (list : CallList) (words : List ℕ) → Follows list words → recordOf words ≡ after list
+record-held list words follows =
+    let parts = after-whole list (follows .known) in
+    rw (follows .held) (record-of-words (after list) (parts .smoothed) (parts .sum) (parts .peak))
+
+follows-length : (begun : Option CallList) (words : List ℕ) → FollowsBegun begun words → length words ≡ recordWords
 follows-length none words whole = whole
-follows-length (some list) words follows = ap length (follows .held) ∙ words-length _ (list-whole list (follows .known))
+follows-length (some list) words follows = rw (follows .held) (words-length _ (after-whole list (follows .known)))
 
 -- ---- one call
 
 fresh-follows :
-    (system : ℕ) (begun : Option Begun) (words : List ℕ) →
+    (system : ℕ) (begun : Option CallList) (words : List ℕ) →
     FollowsBegun begun words →
     FollowsBegun (listAsked begun (freshRecord system)) (freshCallExit system words)
-unfolding listAsked freshCallExit freshCallRefusal freshRefusal recordAfter
+unfolding listAsked freshCallExit freshCallRefusal freshRefusal after recordAfter
 fresh-follows system begun words follows =
     rw (eq-eqb (length words) recordWords (follows-length begun words follows)) (go (isSystem system) refl)
   where
@@ -110,40 +121,31 @@ fresh-follows system begun words follows =
 abbrev rowAdded : List ℕ → Row → List ℕ
 rowAdded words row = unlessRefused (addRowRefusal (recordOf words) row) (wordsOf (withRow (recordOf words) row)) words
 
--- they are the words of the record that the library answers
-row-words :
-    (words : List ℕ) (row : Row) (o : Observation) →
-    recordOf words ≡ o →
-    words ≡ wordsOf o →
-    rowAdded words row ≡ wordsOf (addRowAnswer o row .observation)
-unfolding addRowAnswer
-row-words words row o same held = rw (same, held) (either (eqb (addRowRefusal o row) noRefusal))
+row-follows :
+    (begun : Option CallList) (words : List ℕ) (row : Row) →
+    FollowsBegun begun words →
+    FollowsBegun (withCall begun row) (rowAdded words row)
+unfolding withCall after addRowAnswer
+row-follows none words row whole =
+    by-refusal (λ (l : List ℕ). length l ≡ recordWords) (addRowRefusal (recordOf words) row)
+    (words-length _ (with-row-whole (recordOf words) row))
+    whole
+row-follows (some list) words row follows =
+    record {
+      known = follows .known;
+      held = rw (record-held list words follows, follows .held, record-after-snoc _ (list .rows) row)
+          (either (eqb (addRowRefusal (after list) row) noRefusal));
+    }
   where
-    either : (worked : Bool) → cond worked (wordsOf (withRow o row)) (wordsOf o) ≡ wordsOf (cond worked (withRow o row) o)
+    either :
+        (accepted : Bool) →
+        cond accepted (wordsOf (withRow (after list) row)) (wordsOf (after list)) ≡
+        wordsOf (cond accepted (withRow (after list) row) (after list))
     either true = refl
     either false = refl
 
-row-follows :
-    (begun : Option Begun) (words : List ℕ) (row : Row) →
-    FollowsBegun begun words →
-    FollowsBegun (withCall begun row) (rowAdded words row)
-unfolding withCall
-row-follows none words row whole = either (eqb (addRowRefusal (recordOf words) row) noRefusal)
-  where
-    either : (worked : Bool) → length (cond worked (wordsOf (withRow (recordOf words) row)) words) ≡ recordWords
-    either true = words-length _ (with-row-whole (recordOf words) row)
-    either false = whole
-row-follows (some list) words row follows =
-    let o = recordOfList list in
-    let parts = list-whole list (follows .known) in
-    let same : recordOf words ≡ o = rw (follows .held) (record-of-words o (parts .smoothed) (parts .sum) (parts .peak)) in
-    record {
-      known = follows .known;
-      held = row-words words row o same (follows .held) ∙ ap wordsOf (sym (record-after-snoc _ (list .rows) row));
-    }
-
 add-row-follows :
-    (system : ℕ) (values : List ℕ) (begun : Option Begun) (words : List ℕ) →
+    (system : ℕ) (values : List ℕ) (begun : Option CallList) (words : List ℕ) →
     FollowsBegun begun words →
     FollowsBegun (listAsked begun (addRow system values)) (addRowCallExit words system values)
 unfolding listAsked addRowCallExit addRowCallRefusal
@@ -165,7 +167,7 @@ add-row-follows system values begun words follows =
     go false = follows
 
 asked-follows :
-    (asked : Asked) (begun : Option Begun) (words : List ℕ) →
+    (asked : Asked) (begun : Option CallList) (words : List ℕ) →
     FollowsBegun begun words →
     FollowsBegun (listAsked begun asked) (leftBy words asked)
 unfolding leftBy listAsked
@@ -181,7 +183,7 @@ left-alone words (addRow system values) other = rw (ne-eqb (length words) record
 left-alone words (askVerdict order unitsPerAmpere) other = refl
 
 call-follows :
-    (call : Call) (begun : Option Begun) (words : List ℕ) →
+    (call : Call) (begun : Option CallList) (words : List ℕ) →
     FollowsBegun begun words →
     FollowsBegun (listAtExit begun call) (wordsAtExit words call)
 unfolding wordsAtExit listAtExit
@@ -212,7 +214,7 @@ call-follows call begun words follows = by-count (decLe recordWords (call .lent)
 -- ---- any calls
 
 pub calls-follow :
-    (calls : List Call) (begun : Option Begun) (words : List ℕ) →
+    (calls : List Call) (begun : Option CallList) (words : List ℕ) →
     FollowsBegun begun words →
     FollowsBegun (listAfter begun calls) (wordsAfter words calls)
 unfolding listAfter wordsAfter

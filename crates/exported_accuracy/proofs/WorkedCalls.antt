@@ -12,9 +12,9 @@ use Rattle.groups.specs.Group.{groupValues}
 use Rattle.rows.specs.Systems.{isSystem}
 use Rattle.rows.specs.Orders.{orderCount}
 use Rattle.accuracy.specs.Distance.{InRange}
-use Rattle.accuracy.proofs.WorkedExample.{workedRow, refusedRow, workedRows, worked-rows}
+use Rattle.accuracy.proofs.WorkedExample.{workedRow, refusedRow, exampleList, example-worked}
 use Rattle.kifsang.specs.Words.{recordWords}
-use Rattle.exported_accuracy.specs.Calls.{Asked, freshRecord, addRow, askVerdict, Call, Begun, wordsAfter, withCall, listAsked, listAtExit, listAfter}
+use Rattle.exported_accuracy.specs.Calls.{Asked, freshRecord, addRow, askVerdict, Call, wordsAfter, withCall, listAsked, listAtExit, listAfter}
 use Rattle.exported_accuracy.specs.Claim.{WordsHold}
 use Rattle.exported_accuracy.proofs.ExportedDemand3.{exported-demand3}
 
@@ -42,11 +42,8 @@ module _ (kind : Kind) (window next : List ℤ) where
       lendingAll (addRow 10 (groupValues kind 10 (linesOf next))) ∷
       []
 
-  list : Begun
-  list = record { system = 10; rows = workedRows kind window next }
-
-  calls-come-to : listAfter none calls ≡ some list
-  unfolding calls list listAfter listAtExit listAsked withCall isSystem groupValues tabulate workedRows workedRow refusedRow
+  calls-come-to : listAfter none calls ≡ some (exampleList kind window next)
+  unfolding calls listAfter listAtExit listAsked withCall isSystem groupValues tabulate exampleList workedRow refusedRow
   calls-come-to = refl
 
   calls-hold :
@@ -54,7 +51,6 @@ module _ (kind : Kind) (window next : List ℤ) where
       InRange next →
       (words : List ℕ) →
       length words ≡ recordWords →
-      WordsHold kind list (wordsAfter words calls)
-  unfolding list
+      WordsHold kind (exampleList kind window next) (wordsAfter words calls)
   calls-hold in-range next-in-range words whole =
-      exported-demand3 .lists kind words whole calls list calls-come-to (worked-rows kind window next in-range next-in-range)
+      exported-demand3 .lists kind words whole calls _ calls-come-to (example-worked kind window next in-range next-in-range)

@@ -8,6 +8,7 @@ use lib.ListN.{length, take, drop}
 use Rattle.rows.specs.Systems.{isSystem}
 use Rattle.rows.specs.Orders.{orderCount}
 use Rattle.rows.specs.declared.Row.{Row}
+use Rattle.accuracy.specs.CallList.{CallList}
 use Rattle.kifsang.specs.Words.{recordWords}
 use Rattle.kifsang.specs.RecordCalls.{lentRow, freshCallExit, addRowCallExit}
 
@@ -40,28 +41,23 @@ unfoldable pub wordsAfter : List ℕ → List Call → List ℕ
 wordsAfter words [] = words
 wordsAfter words (call ∷ calls) = wordsAfter (wordsAtExit words call) calls
 
--- a list of document 01: the system of its fresh record, and the rows that add row was called with since
-pub record Begun : Type 0 where
-  pub system : ℕ
-  pub rows : List Row
-
 -- one add row call more; before the first fresh record there is no list
-unfoldable pub withCall : Option Begun → Row → Option Begun
+unfoldable pub withCall : Option CallList → Row → Option CallList
 withCall none row = none
 withCall (some list) row = some (record { system = list .system; rows = list .rows ++ (row ∷ []) })
 
 -- "A fresh record begins another list": one that is not refused. Values that are not 40 are no row.
-unfoldable pub listAsked : Option Begun → Asked → Option Begun
+unfoldable pub listAsked : Option CallList → Asked → Option CallList
 listAsked begun (freshRecord system) = cond (isSystem system) (some (record { system = system; rows = [] })) begun
 listAsked begun (addRow system values) =
     cond (eqb (length values) orderCount) (withCall begun (lentRow system values)) begun
 listAsked begun (askVerdict order unitsPerAmpere) = begun
 
 -- a call that lends fewer than 122 words is refused before it looks at the record
-unfoldable pub listAtExit : Option Begun → Call → Option Begun
+unfoldable pub listAtExit : Option CallList → Call → Option CallList
 listAtExit begun call = cond (leb recordWords (call .lent)) (listAsked begun (call .asked)) begun
 
 -- the list that the calls have come to; none before the first fresh record
-unfoldable pub listAfter : Option Begun → List Call → Option Begun
+unfoldable pub listAfter : Option CallList → List Call → Option CallList
 listAfter begun [] = begun
 listAfter begun (call ∷ calls) = listAfter (listAtExit begun call) calls

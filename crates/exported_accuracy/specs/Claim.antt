@@ -2,7 +2,7 @@
 use mathlib.Core.Path.{_≡_}
 use mathlib.Core.List.{List}
 use mathlib.Core.Option.{none, some}
-use Prim.Native.Nat.{ℕ, _+_, _-_, _<_, _≤_}
+use Prim.Native.Nat.{ℕ, _+_, _-_}
 use lib.IntN.{ℤ}
 use lib.ListN.{length, getD}
 use Rattle.algebra.specs.Fraction.{whole, _+ᶠ_, _≤ᶠ_}
@@ -10,47 +10,39 @@ use Rattle.refusals.specs.Numbers.{noRefusal}
 use Rattle.spectrum.specs.Line.{windowAt}
 use Rattle.spectrum.specs.Spectrum.{spectrumRefusal, spectrumExit}
 use Rattle.groups.specs.declared.Kind.{Kind}
-use Rattle.rows.specs.Orders.{orderCount}
 use Rattle.verdict.specs.declared.Verdict.{Verdict}
 use Rattle.observation.specs.Smoothing.{smoothedMargin}
 use Rattle.verdict.specs.Call.{orderNumber}
-use Rattle.accuracy.specs.Distance.{ValueNear}
-use Rattle.accuracy.specs.Claim.{Worked, WorkedList, LBook, UBook, after, state, Keeps, ListHolds}
+use Rattle.accuracy.specs.Distance.{EveryOrder, ValueNear}
+use Rattle.accuracy.specs.CallList.{CallList, after, state}
+use Rattle.accuracy.specs.Claim.{Worked, WorkedList, LBook, UBook, Keeps, ListHolds}
 use Rattle.kifsang.specs.Kinds.{kindWith}
 use Rattle.kifsang.specs.GroupCalls.{groupCallRefusal, groupCallExit, rowCallRefusal, rowCallExit}
 use Rattle.kifsang.specs.Words.{smoothedPlace, recordWords, wordsOf}
 use Rattle.kifsang.specs.RecordCalls.{lentRow, verdictNumber, verdictCallRefusal, verdictCallExit}
-use Rattle.exported_accuracy.specs.Calls.{Call, Begun, wordsAfter, listAfter}
+use Rattle.exported_accuracy.specs.Calls.{Call, wordsAfter, listAfter}
 
 -- the word of an order's smoothed value
 abbrev pub smoothedWord : List ℕ → ℕ → ℕ
 smoothedWord words order = getD words (smoothedPlace + (order - 1)) 0
 
 -- a verdict call that is not refused leaves the number of a verdict of the order that keeps its claim, whatever the number was before
-pub record CalledVerdict (kind : Kind) (list : Begun) (words : List ℕ) (order unitsPerAmpere : ℕ) : Type 0 where
+pub record CalledVerdict (kind : Kind) (list : CallList) (words : List ℕ) (order unitsPerAmpere : ℕ) : Type 0 where
   pub verdict : Verdict
   pub of-order : orderNumber verdict ≡ order
   pub number : (before : ℕ) → verdictCallExit words order unitsPerAmpere before ≡ verdictNumber verdict
-  pub kept : Keeps kind (list .system) (list .rows) order unitsPerAmpere verdict
+  pub kept : Keeps kind list order unitsPerAmpere verdict
 
 -- what some words hold after a list of document 01
-pub record WordsHold (kind : Kind) (list : Begun) (words : List ℕ) : Type 0 where
+pub record WordsHold (kind : Kind) (list : CallList) (words : List ℕ) : Type 0 where
   -- they are the words of the record after the list, of which demand 3 is claimed
-  pub held : words ≡ wordsOf (after kind (list .system) (list .rows))
-  pub claimed : ListHolds kind (list .system) (list .rows)
+  pub held : words ≡ wordsOf (after list)
+  pub claimed : ListHolds kind list
   -- smoothed is at least the smoothing of the l less 12, and at most that of the u plus 12
-  pub smoothed-low :
-      (order : ℕ) →
-      0 < order →
-      order ≤ orderCount →
-      (book : LBook kind (list .system) (list .rows) order) →
-      state kind (list .system) (list .rows) book .smoothed ≤ᶠ whole (smoothedWord words order + smoothedMargin)
-  pub smoothed-high :
-      (order : ℕ) →
-      0 < order →
-      order ≤ orderCount →
-      (book : UBook kind (list .system) (list .rows) order) →
-      whole (smoothedWord words order) ≤ᶠ state kind (list .system) (list .rows) book .smoothed +ᶠ whole smoothedMargin
+  pub smoothed-low : EveryOrder (λ order.
+      (book : LBook kind list order) → state list book .smoothed ≤ᶠ whole (smoothedWord words order + smoothedMargin))
+  pub smoothed-high : EveryOrder (λ order.
+      (book : UBook kind list order) → whole (smoothedWord words order) ≤ᶠ state list book .smoothed +ᶠ whole smoothedMargin)
   pub verdicts :
       (order unitsPerAmpere : ℕ) →
       verdictCallRefusal words order unitsPerAmpere ≡ noRefusal →
@@ -85,7 +77,7 @@ pub record ExportedDemand3Holds : Type 0 where
   pub lists :
       (kind : Kind) (words : List ℕ) →
       length words ≡ recordWords →
-      (calls : List Call) (list : Begun) →
+      (calls : List Call) (list : CallList) →
       listAfter none calls ≡ some list →
-      WorkedList kind (list .system) (list .rows) →
+      WorkedList kind list →
       WordsHold kind list (wordsAfter words calls)

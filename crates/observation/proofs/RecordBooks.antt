@@ -15,7 +15,7 @@ use Rattle.observation.specs.Smoothing.{reported}
 use Rattle.observation.specs.Soundness.{isSound}
 use Rattle.observation.specs.Calls.{emptyRecord, freshAnswer, bookAt, nextBook, withRow, addRowRefusal, addRowAnswer}
 use Rattle.observation.specs.RecordAfter.{recordAfter}
-use Rattle.observation.specs.BookCalls.{accepts, bookCall, bookAfter, ownValues, AcceptedFit}
+use Rattle.observation.specs.BookCalls.{accepts, bookCall, bookAfter, ownValues, valueAt, AcceptedFit}
 use Rattle.observation.proofs.SoundRecord.{by-acceptance, answer-sound, empty-record-sound, fresh-of-known}
 
 -- the record with a row added holds the next book of each order
@@ -51,7 +51,7 @@ record-after-system o (row ∷ rows) = record-after-system (addRowAnswer o row .
 pub book-at-answer :
     (o : Observation) (row : Row) (i : ℕ) → i < orderCount → isSound o ≡ true →
     bookAt (addRowAnswer o row .observation) i
-    ≡ bookCall reported (o .system) (bookAt o i) (record { row = row; value = getD (row .values) i 0 })
+    ≡ bookCall reported (accepts (o .system)) (bookAt o i) (record { row = row; value = getD (row .values) i 0 })
 unfolding bookCall bookAt nextBook
 book-at-answer o row i inside sound =
     by-acceptance
@@ -62,7 +62,7 @@ book-at-answer o row i inside sound =
 -- the books after a list of calls, from any sound record
 pub book-at-record-after :
     (o : Observation) (rows : List Row) (i : ℕ) → i < orderCount → isSound o ≡ true → AcceptedFit (o .system) (o .windows) rows →
-    bookAt (recordAfter o rows) i ≡ bookAfter reported (o .system) (bookAt o i) (ownValues i rows)
+    bookAt (recordAfter o rows) i ≡ bookAfter reported (accepts (o .system)) (bookAt o i) (ownValues (valueAt i) rows)
 unfolding recordAfter bookAfter ownValues
 book-at-record-after o [] i inside sound fits = refl
 book-at-record-after o (row ∷ rows) i inside sound fits =
@@ -82,9 +82,9 @@ fresh-record-after-system system rows known =
 pub fresh-record-after-books :
     (system : ℕ) (rows : List Row) (i : ℕ) → isSystem system ≡ true → i < orderCount → AcceptedFit system 0 rows →
     bookAt (recordAfter (freshAnswer system .observation) rows) i
-    ≡ bookAfter reported system (emptyBook reported) (ownValues i rows)
+    ≡ bookAfter reported (accepts system) (emptyBook reported) (ownValues (valueAt i) rows)
 unfolding emptyRecord
 fresh-record-after-books system rows i known inside fits =
     rw (fresh-of-known system known)
     (book-at-record-after (emptyRecord system) rows i inside (empty-record-sound system known) fits ∙
-    ap (λ (book : Book reported). bookAfter reported system book (ownValues i rows)) (book-at-empty system i inside))
+    ap (λ (book : Book reported). bookAfter reported (accepts system) book (ownValues (valueAt i) rows)) (book-at-empty system i inside))

@@ -1,4 +1,5 @@
 -- A book over a list of add row calls (document 01, "Exact book"): it is fed the row of each call and, for a row that it accepts, a value.
+-- What a book accepts is a test of its count and of a row.
 use mathlib.Core.Bool.{Bool, cond}
 use mathlib.Core.List.{List, [], _∷_, map}
 use Prim.Native.Nat.{ℕ, _+_}
@@ -12,19 +13,16 @@ use Rattle.observation.specs.Smoothing.{reported}
 use Rattle.rows.specs.Rows.{ValuesFit}
 use Rattle.observation.specs.Calls.{rowChecks}
 
--- a row that a book with this system and count accepts
+-- a row that a book with this system and count accepts: the refusal table's "add row" doesn't turn it away
 unfoldable pub accepts : ℕ → ℕ → Row → Bool
 accepts system count row = eqb (firstFault (rowChecks system count row)) noRefusal
 
--- each call of a list whose row a book with this system and count accepts meets a condition
-module _ {A : Type 0} (rowOf : A → Row) (condition : A → Type 0) (system : ℕ) where
+-- each call of a list whose row a book with this count accepts meets a condition
+module _ {A : Type 0} (rowOf : A → Row) (condition : A → Type 0) (taken : ℕ → Row → Bool) where
   unfoldable pub EachAccepted : ℕ → List A → Type 0
   EachAccepted count [] = Unit {0}
   EachAccepted count (call ∷ calls) =
-      cond
-      (accepts system count (rowOf call))
-      (condition call × EachAccepted (count + 1) calls)
-      (EachAccepted count calls)
+      cond (taken count (rowOf call)) (condition call × EachAccepted (count + 1) calls) (EachAccepted count calls)
 
 module _ (𝓝 : Numbers) where
   -- what a book is fed at a call: the row and, where it accepts the row, a value
@@ -32,19 +30,23 @@ module _ (𝓝 : Numbers) where
     pub row : Row
     pub value : 𝓝 .Value
 
-  -- a refused row changes nothing
-  unfoldable pub bookCall : ℕ → Book 𝓝 → Fed → Book 𝓝
-  bookCall system book call =
-      cond (accepts system (book .count) (call .row)) (bookStep 𝓝 book (call .value)) book
+  module _ (taken : ℕ → Row → Bool) where
+    -- a refused row changes nothing
+    unfoldable pub bookCall : Book 𝓝 → Fed → Book 𝓝
+    bookCall book call = cond (taken (book .count) (call .row)) (bookStep 𝓝 book (call .value)) book
 
-  unfoldable pub bookAfter : ℕ → Book 𝓝 → List Fed → Book 𝓝
-  bookAfter system book [] = book
-  bookAfter system book (call ∷ calls) = bookAfter system (bookCall system book call) calls
+    unfoldable pub bookAfter : Book 𝓝 → List Fed → Book 𝓝
+    bookAfter book [] = book
+    bookAfter book (call ∷ calls) = bookAfter (bookCall book call) calls
 
--- the reported book of the order at a place is fed the row's own value
-unfoldable pub ownValues : ℕ → List Row → List (Fed reported)
-ownValues i rows = map (λ row. record { row = row; value = getD (row .values) i 0 }) rows
+-- "fed the row's own value": what the reported book reads of each row
+unfoldable pub ownValues : (Row → ℕ) → List Row → List (Fed reported)
+ownValues read rows = map (λ row. record { row = row; value = read row }) rows
+
+-- that of the order at a place
+abbrev pub valueAt : ℕ → Row → ℕ
+valueAt i row = getD (row .values) i 0
 
 -- each row that a book with this system and count accepts holds such values
 abbrev pub AcceptedFit : ℕ → ℕ → List Row → Type 0
-AcceptedFit = EachAccepted (λ row. row) ValuesFit
+AcceptedFit system = EachAccepted (λ row. row) ValuesFit (accepts system)

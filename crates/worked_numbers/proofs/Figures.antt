@@ -25,7 +25,8 @@ use Rattle.verdict.specs.declared.Verdict.the-variants.{Within, Close, Over}
 use Rattle.verdict.specs.Limit.{ownFigures, figureIn, limitOf, overOrder}
 use Rattle.verdict.specs.Tests.{limitInUnits, peakLimitInUnits}
 use Rattle.accuracy.specs.Distance.{InRange, GroupsNear}
-use Rattle.accuracy.specs.Claim.{WorkedList, LBook, UBook, after, reportedBook, state, Keeps}
+use Rattle.accuracy.specs.CallList.{CallList, after, state}
+use Rattle.accuracy.specs.Claim.{WorkedList, LBook, UBook, reportedBook, Keeps}
 use Rattle.accuracy.proofs.Demand3.{demand3}
 use Rattle.kifsang.specs.Kinds.{kinds, kindWith}
 use Rattle.kifsang.specs.GroupCalls.{groupCallRefusal, groupCallExit}
@@ -58,7 +59,7 @@ within-7 kind order window least most in-range = (at 10 refl, at 12 refl)
         isSystem system ≡ true →
         Within7 (groupAnswer kind system order (linesOf window) .value) (exactGroup kind system order window)
     at system known =
-        let near = demand3 .groups kind system order window known least most in-range .value-near in
+        let near = demand3 .groups kind system window known in-range order least most .value-near in
         (omega (arith, near .not-far-below), omega (arith, near .not-far-above))
 
 -- the harmonic group (kind 1) that the exported calls leave for a recording, neither refused
@@ -77,17 +78,18 @@ called-within-7 recording start buffer system order before taken asked =
 -- ---- 12 units
 
 -- every l book's smoothed fraction is at most s + 12, and s is at most every u book's plus 12
-abbrev Within12 : Kind → ℕ → List Row → ℕ → ℕ → Type 0
-Within12 kind system rows order s =
-    (l : LBook kind system rows order) (u : UBook kind system rows order) →
-    let low = state kind system rows l .smoothed in
-    let high = state kind system rows u .smoothed in
+abbrev Within12 : Kind → CallList → ℕ → ℕ → Type 0
+Within12 kind list order s =
+    (l : LBook kind list order) (u : UBook kind list order) →
+    let low = state list l .smoothed in
+    let high = state list u .smoothed in
     (low .num ≤ (s + 12) * low .den) × (s * high .den ≤ high .num + 12 * high .den)
 
 -- after any list of calls of the library
 abbrev ListWithin12 : Kind → List Row → ℕ → ℕ → Type 0
 ListWithin12 kind rows order system =
-    WorkedList kind system rows → Within12 kind system rows order (getD (after kind system rows .smoothed) (order - 1) 0)
+    let list : CallList = record { system = system; rows = rows } in
+    WorkedList kind list → Within12 kind list order (getD (after list .smoothed) (order - 1) 0)
 
 within-12 : (kind : Kind) (rows : List Row) (order : ℕ) → 1 ≤ order → order ≤ 40 → Both (ListWithin12 kind rows order)
 unfolding isSystem whole _+ᶠ_ bookAt
@@ -95,25 +97,25 @@ within-12 kind rows order least most = (at 10 refl, at 12 refl)
   where
     at : (system : ℕ) → isSystem system ≡ true → ListWithin12 kind rows order system
     at system known worked l u =
-        let holds = demand3 .lists kind system known rows worked in
+        let holds = demand3 .lists kind (record { system = system; rows = rows }) known worked in
         let held = ap (λ (book : Book reported). book .smoothed) (holds .same-books order least most) in
         rw held (omega (arith, holds .smoothed-low order least most l), omega (arith, holds .smoothed-high order least most u))
 
 -- ---- the verdict of order 3: its limit is 2,300 mA, so 2300 × K / 1000 units, and 150 % of it 6900 × K / 2000
 
-module _ (kind : Kind) (system : ℕ) (rows : List Row) (k : ℕ) where
+module _ (kind : Kind) (list : CallList) (k : ℕ) where
   -- 1: every l book's average is at most the limit, and its peak at most 150 % of it
   abbrev SaysWithin : Type 0
   SaysWithin =
-      (l : LBook kind system rows 3) →
-      let book = state kind system rows l in
+      (l : LBook kind list 3) →
+      let book = state list l in
       (book .sum .num * 1000 ≤ 2300 * k * (max (book .count) 1 * book .sum .den)) ×
       (book .peak .num * 2000 ≤ 6900 * k * book .peak .den)
 
   -- 2: the reported average less 12 is at most the limit and with 12 more above it, or so the reported peak with 150 % of it
   abbrev SaysClose : Type 0
   SaysClose =
-      let book = reportedBook kind system rows 3 in
+      let book = reportedBook list 3 in
       let n = max (book .count) 1 in
       ((book .sum * 1000 ≤ 2300 * k * n + 12000 * n) × (2300 * k * n < book .sum * 1000 + 12000 * n)) ⊎
       ((book .peak * 2000 ≤ 6900 * k + 24000) × (6900 * k < book .peak * 2000 + 24000))
@@ -121,16 +123,16 @@ module _ (kind : Kind) (system : ℕ) (rows : List Row) (k : ℕ) where
   -- 3: every u book's average is above the limit, or every u book's peak above 150 % of it
   abbrev SaysOver : Type 0
   SaysOver =
-      ((u : UBook kind system rows 3) →
-      let book = state kind system rows u in 2300 * k * (max (book .count) 1 * book .sum .den) < book .sum .num * 1000) ⊎
-      ((u : UBook kind system rows 3) →
-      let book = state kind system rows u in 6900 * k * book .peak .den < book .peak .num * 2000)
+      ((u : UBook kind list 3) →
+      let book = state list u in 2300 * k * (max (book .count) 1 * book .sum .den) < book .sum .num * 1000) ⊎
+      ((u : UBook kind list 3) →
+      let book = state list u in 6900 * k * book .peak .den < book .peak .num * 2000)
 
   -- the number is one of the three, and tells what stands with it
   abbrev NumberSays : ℕ → Type 0
   NumberSays number = ((number ≡ 1) × SaysWithin) ⊎ (((number ≡ 2) × SaysClose) ⊎ ((number ≡ 3) × SaysOver))
 
-  verdict-number-says : (verdict : Verdict) → Keeps kind system rows 3 k verdict → NumberSays (verdictNumber verdict)
+  verdict-number-says : (verdict : Verdict) → Keeps kind list 3 k verdict → NumberSays (verdictNumber verdict)
   unfolding Keeps verdictNumber limitInUnits peakLimitInUnits limitOf figureIn ownFigures overOrder whole scale divide _+ᶠ_
   verdict-number-says (Within h) keeps = inl (refl, λ l. (omega (arith, keeps l .0), omega (arith, keeps l .1)))
   verdict-number-says (Close h) keeps =
@@ -146,16 +148,14 @@ module _ (kind : Kind) (system : ℕ) (rows : List Row) (k : ℕ) where
 -- ---- the words after any exported calls
 
 module _
-    (kind : Kind) (words : List ℕ) (calls : List Call) (system : ℕ) (rows : List Row)
-    (whole-record : length words ≡ 122)
-    (came : listAfter none calls ≡ some (record { system = system; rows = rows }))
-    (worked : WorkedList kind system rows)
+    (kind : Kind) (words : List ℕ) (calls : List Call) (list : CallList)
+    (whole-record : length words ≡ 122) (came : listAfter none calls ≡ some list) (worked : WorkedList kind list)
   where
-    holds : WordsHold kind (record { system = system; rows = rows }) (wordsAfter words calls)
-    holds = exported-demand3 .lists kind words whole-record calls _ came worked
+    holds : WordsHold kind list (wordsAfter words calls)
+    holds = exported-demand3 .lists kind words whole-record calls list came worked
 
     words-within-12 :
-        (order : ℕ) → 1 ≤ order → order ≤ 40 → Within12 kind system rows order (getD (wordsAfter words calls) (2 + (order - 1)) 0)
+        (order : ℕ) → 1 ≤ order → order ≤ 40 → Within12 kind list order (getD (wordsAfter words calls) (2 + (order - 1)) 0)
     unfolding whole _+ᶠ_
     words-within-12 order least most l u =
         (omega (arith, holds .smoothed-low order least most l), omega (arith, holds .smoothed-high order least most u))
@@ -164,7 +164,7 @@ module _
     words-verdict-number :
         (k before : ℕ) →
         verdictCallRefusal (wordsAfter words calls) 3 k ≡ 0 →
-        NumberSays kind system rows k (verdictCallExit (wordsAfter words calls) 3 k before)
+        NumberSays kind list k (verdictCallExit (wordsAfter words calls) 3 k before)
     words-verdict-number k before asked =
         let given = holds .verdicts 3 k asked in
-        rw (given .number before) (verdict-number-says kind system rows k (given .verdict) (given .kept))
+        rw (given .number before) (verdict-number-says kind list k (given .verdict) (given .kept))
