@@ -82,10 +82,10 @@ static void on_lines(void)
     memcpy(lines, number, count * sizeof *lines);
 }
 
-static void on_groups(void)
+static void on_row(void)
 {
     uint32_t row[KIFSANG_ORDER_COUNT];
-    uint32_t kind = (uint32_t)number[0] - 1;
+    uint32_t kind = (uint32_t)number[0];
     for (size_t i = 0; i < KIFSANG_ORDER_COUNT; i++)
         row[i] = BEFORE;
     same("row", kifsang_row(kind, (uint32_t)number[1], lines, line_count, row, KIFSANG_ORDER_COUNT), 0);
@@ -97,12 +97,12 @@ static void on_groups(void)
     }
 }
 
-static void on_group(void)
+static void on_group_value(void)
 {
     uint64_t value = BEFORE;
     if (number[1] > UINT32_MAX || number[2] > UINT32_MAX)
         return;
-    uint32_t refusal = kifsang_group_value((uint32_t)number[0] - 1, (uint32_t)number[1], (uint32_t)number[2], lines, line_count, &value);
+    uint32_t refusal = kifsang_group_value((uint32_t)number[0], (uint32_t)number[1], (uint32_t)number[2], lines, line_count, &value);
     same("group", refusal, number[3]);
     same_answer("group value", value, refusal, number[4]);
 }
@@ -117,7 +117,7 @@ static void on_distortion(void)
     same_answer("parts per thousand", parts, refusal, number[1]);
 }
 
-static void on_fresh(void)
+static void on_fresh_record(void)
 {
     if (number[0] > UINT32_MAX)
         return;
@@ -160,7 +160,7 @@ static void on_verdict(void)
     same_words("the record after a verdict", record, expected_record, KIFSANG_RECORD_WORDS);
 }
 
-static void on_column_read(void)
+static void on_read_column(void)
 {
     static unsigned char text[MOST_NUMBERS];
     int64_t value = BEFORE;
@@ -171,7 +171,7 @@ static void on_column_read(void)
     same_answer("number read", (uint64_t)value, refusal, number[1]);
 }
 
-static void on_column_write(void)
+static void on_write_column(void)
 {
     static unsigned char buffer[MOST_NUMBERS];
     memset(buffer, '#', count);
@@ -186,7 +186,7 @@ static void on_listing_values(void)
         take_row(listing_values[row], number + row * KIFSANG_ORDER_COUNT);
 }
 
-static void on_listing(void)
+static void on_fill_listing(void)
 {
     static unsigned char buffer[MOST_NUMBERS];
     uint64_t written = BEFORE;
@@ -203,13 +203,20 @@ static const struct {
     const char *word;
     void (*run)(void);
 } cases[] = {
-    {"recording", on_recording},     {"spectrum", on_spectrum},
-    {"lines", on_lines},             {"groups", on_groups},
-    {"group", on_group},             {"distortion", on_distortion},
-    {"fresh", on_fresh},             {"add_row", on_add_row},
-    {"record", on_record},           {"verdict", on_verdict},
-    {"column_read", on_column_read}, {"column_write", on_column_write},
-    {"listing_values", on_listing_values}, {"listing", on_listing},
+    {"recording", on_recording},
+    {"spectrum", on_spectrum},
+    {"lines", on_lines},
+    {"row", on_row},
+    {"group_value", on_group_value},
+    {"distortion", on_distortion},
+    {"fresh_record", on_fresh_record},
+    {"add_row", on_add_row},
+    {"record", on_record},
+    {"verdict", on_verdict},
+    {"read_column", on_read_column},
+    {"write_column", on_write_column},
+    {"listing_values", on_listing_values},
+    {"fill_listing", on_fill_listing},
 };
 
 int main(void)

@@ -30,12 +30,12 @@ impl Tally {
 /// A refusal of the core and one of the second program, both as document 01's number, 0 for none.
 pub fn numbers<T, U>(
     core: &Result<T, kifsang::Refusal>,
-    reference: &Result<U, reference::refusal::Refusal>,
+    reference: &Result<U, reference::refusals::Refusal>,
 ) -> (u32, u32) {
     let of_core = core.as_ref().err().map_or(0, |refusal| refusal.0);
     (
         of_core,
-        u32::from(reference::refusal::number_or_zero(reference)),
+        u32::from(reference::refusals::number_or_zero(reference)),
     )
 }
 

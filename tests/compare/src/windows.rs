@@ -3,7 +3,7 @@
 use crate::{numbers, Tally};
 use kifsang::{LINE_COUNT, ORDER_COUNT, WINDOW_LENGTH};
 use reference::annex_c::{comparison, own_spectrum, Agreement};
-use reference::group::Kind;
+use reference::groups::Kind;
 use reference::random::Random;
 use reference::signals;
 use std::cell::RefCell;
@@ -40,7 +40,7 @@ fn compare_groups(tally: &mut Tally, name: &str, lines: &[u64]) {
             for order in 1..=ORDER_COUNT as u32 {
                 let core = kifsang::group_value(kind, system, order, lines);
                 let expected =
-                    reference::group::group_value(other, system.into(), order.into(), lines);
+                    reference::groups::group_value(other, system.into(), order.into(), lines);
                 let what = format!("{kind:?} of {name}, system {system}, order {order}");
                 tally.same(
                     &what,
@@ -80,7 +80,7 @@ fn compare_group_refusals(tally: &mut Tally) {
                 for (kind, other) in KINDS.into_iter().zip(Kind::ALL) {
                     let core = kifsang::group_value(kind, system, order, lines);
                     let expected =
-                        reference::group::group_value(other, system.into(), order.into(), lines);
+                        reference::groups::group_value(other, system.into(), order.into(), lines);
                     let (number, refusal) = numbers(&core, &expected);
                     let what = format!("{kind:?}, system {system}, order {order}");
                     tally.same(&what, number, refusal);
