@@ -4,12 +4,12 @@
 //! in input order decides; the bytes after it are not read.
 
 use crate::columns::{COLUMN_WIDTH, column_text, read_column};
-use crate::groups::{Kind, group_row};
+use crate::groups::Kind;
 use crate::listing::{REFUSAL_WIDTH, listing_text};
-use crate::observation::{Observation, add_row, fresh_record};
+use crate::observe::Observing;
 use crate::refusals::Refusal;
-use crate::rows::{Row, is_system};
-use crate::spectrum::{LINE_COUNT, WINDOW_LENGTH, lines_of, out_of_range};
+use crate::rows::is_system;
+use crate::spectrum::{WINDOW_LENGTH, out_of_range};
 
 /// The next line's number, or none at the end of the input. Refused: 13 for a
 /// line that is not one column and a newline; a shorter line is found by a
@@ -37,65 +37,32 @@ fn sample_of(number: i64) -> Result<i32, Refusal> {
     if out_of_range(sample) { Err(Refusal::SampleOutOfRange) } else { Ok(sample) }
 }
 
-/// The windows seen so far: the record of their harmonic groups and the last
-/// window with its lines.
-struct Reading {
-    observation: Observation,
-    window: Vec<i32>,
-    lines: [u64; LINE_COUNT],
-}
-
-impl Reading {
-    fn new(system: u64) -> Result<Reading, Refusal> {
-        let (observation, refusal) = fresh_record(system);
-        match refusal {
-            Some(refusal) => Err(refusal),
-            None => Ok(Reading { observation, window: Vec::new(), lines: [0; LINE_COUNT] }),
-        }
-    }
-
-    fn row(&self, kind: Kind) -> Result<Row, Refusal> {
-        group_row(kind, self.observation.system, &self.lines)
-    }
-
-    /// Takes a full window in range. Refused: 9. A window equal to the one
-    /// before it has that one's lines, which are then not worked out again.
-    fn take(&mut self, window: Vec<i32>) -> Result<(), Refusal> {
-        if window != self.window {
-            self.lines = lines_of(&window, 0)?;
-            self.window = window;
-        }
-        let row = self.row(Kind::HarmonicGroup)?;
-        let (observation, refusal) = add_row(self.observation.clone(), &row);
-        self.observation = observation;
-        refusal.map_or(Ok(()), Err)
-    }
-
-    fn listing(&self) -> Result<Vec<u8>, Refusal> {
-        let group = self.row(Kind::HarmonicGroup)?.values;
-        let subgroup = self.row(Kind::HarmonicSubgroup)?.values;
-        let smoothed = self.observation.smoothed.map(|value| value as u32);
-        Ok(listing_text(&group, &subgroup, &smoothed))
-    }
+/// The listing of an observation of harmonic groups.
+fn listing_of(observing: &Observing) -> Result<Vec<u8>, Refusal> {
+    let group = observing.row(Kind::HarmonicGroup)?.values;
+    let subgroup = observing.row(Kind::HarmonicSubgroup)?.values;
+    let smoothed = observing.observation.smoothed.map(|value| value as u32);
+    Ok(listing_text(&group, &subgroup, &smoothed))
 }
 
 /// The listing after the last window, or the first fault.
 fn listing_or_fault(mut input: impl Iterator<Item = u8>) -> Result<Vec<u8>, Refusal> {
-    let mut reading = Reading::new(read_system(&mut input)?)?;
+    let mut observing = Observing::begin(read_system(&mut input)?, Kind::HarmonicGroup)?;
     let mut window = Vec::with_capacity(WINDOW_LENGTH);
     while let Some(number) = next_number(&mut input)? {
         window.push(sample_of(number)?);
         if window.len() == WINDOW_LENGTH {
-            reading.take(std::mem::take(&mut window))?;
+            observing.take(&window, 0)?;
+            window.clear();
         }
     }
     if !window.is_empty() {
         return Err(Refusal::ShortWindow);
     }
-    if reading.observation.windows == 0 {
+    if observing.observation.windows == 0 {
         return Err(Refusal::NoWindow);
     }
-    reading.listing()
+    listing_of(&observing)
 }
 
 /// The one line of output for a fault.
@@ -111,19 +78,4 @@ fn refused_line(refusal: Refusal) -> Vec<u8> {
 /// All that `harmlist` writes for an input.
 pub fn harmlist(input: impl Iterator<Item = u8>) -> Vec<u8> {
     listing_or_fault(input).unwrap_or_else(refused_line)
-}
-
-#[cfg(test)]
-mod tests {
-    use super::*;
-
-    #[test]
-    fn windows_are_taken_up_to_45000() {
-        let mut reading = Reading::new(12).unwrap();
-        for _ in 0..45_000 {
-            assert_eq!(reading.take(vec![1; WINDOW_LENGTH]), Ok(()));
-        }
-        assert_eq!(reading.take(vec![1; WINDOW_LENGTH]), Err(Refusal::RecordFull));
-        assert_eq!(reading.observation.windows, 45_000);
-    }
 }

@@ -14,6 +14,7 @@ pub mod largest;
 pub mod listing;
 pub mod natural;
 pub mod observation;
+pub mod observe;
 pub mod random;
 pub mod refusals;
 pub mod rounding;

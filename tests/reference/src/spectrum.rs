@@ -9,6 +9,8 @@ use crate::turn::{QUARTER_TURN, TURN};
 pub const WINDOW_LENGTH: usize = TURN;
 /// Lines in a spectrum.
 pub const LINE_COUNT: usize = 512;
+/// Line numbers are below this: half of the samples in a window.
+pub const LINE_LIMIT: usize = 1_024;
 /// The largest size of a sample.
 pub const LARGEST_SAMPLE: i32 = 131_071;
 /// The largest line.
@@ -36,21 +38,48 @@ fn line_of(window: &[i32], k: usize) -> u64 {
     a * a + b * b
 }
 
-/// Writes the 512 lines of the window that begins at `start` to `lines`. A
-/// refusal leaves `lines` as it was. Refused in this order: 2, 4, 3.
-pub fn spectrum(recording: &[i32], start: usize, lines: &mut [u64]) -> Result<(), Refusal> {
+/// The window that begins at `start`. Refused: 2.
+pub fn window_at(recording: &[i32], start: usize) -> Result<&[i32], Refusal> {
     let after_start = recording.get(start..).unwrap_or(&[]);
-    let window = after_start.get(..WINDOW_LENGTH).ok_or(Refusal::ShortWindow)?;
-    if lines.len() != LINE_COUNT {
-        return Err(Refusal::WrongLineCount);
-    }
+    after_start.get(..WINDOW_LENGTH).ok_or(Refusal::ShortWindow)
+}
+
+/// Writes the lines `first`, `first` + 1, .. of a window. Refused: 3.
+fn write_lines(window: &[i32], first: usize, lines: &mut [u64]) -> Result<(), Refusal> {
     if window.iter().any(|&sample| out_of_range(sample)) {
         return Err(Refusal::SampleOutOfRange);
     }
-    for (k, place) in lines.iter_mut().enumerate() {
+    for (place, k) in lines.iter_mut().zip(first..) {
         *place = line_of(window, k);
     }
     Ok(())
+}
+
+/// Writes the 512 lines of the window that begins at `start` to `lines`. A
+/// refusal leaves `lines` as it was. Refused in this order: 2, 4, 3.
+pub fn spectrum(recording: &[i32], start: usize, lines: &mut [u64]) -> Result<(), Refusal> {
+    let window = window_at(recording, start)?;
+    if lines.len() != LINE_COUNT {
+        return Err(Refusal::WrongLineCount);
+    }
+    write_lines(window, 0, lines)
+}
+
+/// Writes the lines `first`, `first` + 1, .. of the window that begins at
+/// `start`, as many as `lines` holds; none is taken too. A refusal leaves
+/// `lines` as it was. Refused in this order: 2; 4 for a buffer that reaches past
+/// line 1,023; 3.
+pub fn lines_from(
+    recording: &[i32],
+    start: usize,
+    first: usize,
+    lines: &mut [u64],
+) -> Result<(), Refusal> {
+    let window = window_at(recording, start)?;
+    if first > LINE_LIMIT || lines.len() > LINE_LIMIT - first {
+        return Err(Refusal::WrongLineCount);
+    }
+    write_lines(window, first, lines)
 }
 
 /// The 512 lines of the window that begins at `start`, in an array of their own.

@@ -9,11 +9,14 @@ use crate::groups::{Kind, group_row, group_value};
 use crate::largest::largest;
 use crate::listing::{LISTING_ROOM, fill_listing};
 use crate::observation::{MOST_WINDOWS, Observation, add_row, fresh_record};
+use crate::observe::observe;
 use crate::random::Random;
 use crate::refusals::{Refusal, number_or_zero};
 use crate::rows::{LARGEST_VALUE, ORDER_COUNT, Row};
-use crate::signals::{Signal, appliances, noise, plain_windows, seeded_windows};
-use crate::spectrum::{LARGEST_LINE, LARGEST_SAMPLE, LINE_COUNT, WINDOW_LENGTH, spectrum};
+use crate::signals::{Signal, appliances, halfway_window, noise, noise_of_ends};
+use crate::signals::{plain_windows, seeded_windows, square_wave, tone};
+use crate::spectrum::{LARGEST_LINE, LARGEST_SAMPLE, LINE_COUNT, LINE_LIMIT, WINDOW_LENGTH};
+use crate::spectrum::{lines_from, spectrum};
 use crate::verdict::{Question, Verdict, order_verdict};
 use std::fmt::Display;
 use std::io::{Result, Write};
@@ -66,6 +69,39 @@ impl<W: Write> Printer<W> {
             }
         }
         Ok(())
+    }
+
+    /// Lines of the last recording, the buffer's first line being `first`.
+    fn lines_from_case(
+        &mut self,
+        recording: &[i32],
+        start: usize,
+        first: usize,
+        line_count: usize,
+    ) -> Result<()> {
+        let mut lines = vec![0; line_count];
+        let result = lines_from(recording, start, first, &mut lines);
+        if result.is_err() {
+            lines.clear();
+        }
+        let refusal = number_or_zero(&result).into();
+        let numbers = [start, first, line_count, refusal];
+        self.line("lines_from", &numbers, &lines)
+    }
+
+    /// The record after windows of the last recording.
+    fn observe_case(
+        &mut self,
+        recording: &[i32],
+        (start, windows): (usize, usize),
+        system: u64,
+        (kind, number): (Kind, usize),
+    ) -> Result<()> {
+        let result = observe(recording, start, windows, system, kind);
+        let refusal = number_or_zero(&result).into();
+        let numbers = [start, windows, system as usize, number, refusal];
+        self.numbers("observe", &numbers)?;
+        result.map_or(Ok(()), |observation| self.record(&observation))
     }
 
     fn distortion_case(&mut self, values: &[u32; ORDER_COUNT]) -> Result<()> {
@@ -183,6 +219,97 @@ fn print_spectrum_refusals<W: Write>(printer: &mut Printer<W>) -> Result<()> {
     }
     printer.spectrum_case(&with_sample(0, 0), 0, LINE_COUNT)?;
     printer.spectrum_case(&with_sample(WINDOW_LENGTH - 1, 0), 0, LINE_COUNT)
+}
+
+/// Parts of the lines of a window: at every edge, refused ones and their order.
+/// The sample before the window is out of range.
+fn print_line_parts<W: Write>(printer: &mut Printer<W>, seed: u64) -> Result<()> {
+    let signals = [
+        noise(WINDOW_LENGTH, LARGEST_SAMPLE, seed),
+        noise_of_ends(WINDOW_LENGTH, seed),
+        square_wave(WINDOW_LENGTH, 800.0),
+        tone(WINDOW_LENGTH, 1_023.0, 131_071.0, 0.1),
+        halfway_window(-1, true),
+    ];
+    for signal in signals {
+        let recording = [&[i32::MIN], &signal.samples[..]].concat();
+        printer.comment(&signal.name)?;
+        printer.numbers("recording", &recording)?;
+        for start in [1, 0, 2, usize::MAX] {
+            for (first, line_count) in [
+                (0, LINE_LIMIT),
+                (0, 0),
+                (0, 1),
+                (7, 1),
+                (45, 11),
+                (LINE_COUNT - 1, 2),
+                (LINE_COUNT, LINE_COUNT),
+                (LINE_LIMIT - 13, 13),
+                (LINE_LIMIT - 1, 1),
+                (LINE_LIMIT, 0),
+                (0, LINE_LIMIT + 1),
+                (1, LINE_LIMIT),
+                (LINE_COUNT + 1, LINE_COUNT),
+                (LINE_LIMIT, 1),
+                (LINE_LIMIT + 1, 0),
+                (usize::MAX, 0),
+                (usize::MAX, 1),
+                (usize::MAX - LINE_COUNT + 1, LINE_COUNT),
+            ] {
+                printer.lines_from_case(&recording, start, first, line_count)?;
+            }
+        }
+    }
+    Ok(())
+}
+
+/// Windows back to back: all kinds, both systems, a bad sample in each window,
+/// recordings that are short, and the order of these.
+fn print_observations<W: Write>(printer: &mut Printer<W>, seed: u64) -> Result<()> {
+    let kinds = || Kind::ALL.into_iter().zip(0..);
+    let (before, windows) = (5, 10);
+    for system in SYSTEMS {
+        let mut recording = vec![i32::MIN; before];
+        for signal in appliances(WINDOW_LENGTH, system, seed).into_iter().take(windows) {
+            recording.extend(signal.samples);
+        }
+        recording.push(i32::MAX);
+        printer.comment("an appliance in each window")?;
+        printer.numbers("recording", &recording)?;
+        for kind in kinds() {
+            for count in 0..=3 {
+                printer.observe_case(&recording, (before, count), system, kind)?;
+            }
+        }
+        let group = (Kind::HarmonicGroup, 1);
+        for count in [windows, windows + 1, usize::MAX] {
+            printer.observe_case(&recording, (before, count), system, group)?;
+        }
+    }
+    let windows = 3;
+    let good = noise(windows * WINDOW_LENGTH, 40_000, seed).samples;
+    let last = |window: usize| (window + 1) * WINDOW_LENGTH - 1;
+    let mut recordings = vec![good.clone(), Vec::new()];
+    for window in 0..windows {
+        for (place, sample) in [(window * WINDOW_LENGTH, 131_072), (last(window), -131_072)] {
+            let mut bad = good.clone();
+            bad[place] = sample;
+            recordings.push(bad);
+        }
+        recordings.push(good[..last(window)].to_vec());
+    }
+    for recording in recordings {
+        printer.comment("three windows, a bad sample in one or one short")?;
+        printer.numbers("recording", &recording)?;
+        let component = (Kind::Component, 0);
+        for count in 0..=windows + 1 {
+            for start in [0, 1, usize::MAX] {
+                printer.observe_case(&recording, (start, count), 10, component)?;
+            }
+            printer.observe_case(&recording, (0, count), 11, component)?;
+        }
+    }
+    Ok(())
 }
 
 fn print_groups<W: Write>(printer: &mut Printer<W>, random: &mut Random) -> Result<()> {
@@ -434,10 +561,12 @@ pub fn print_vectors(seed: u64, output: impl Write) -> Result<()> {
     }
     print_windows_in_recordings(printer, seed)?;
     print_spectrum_refusals(printer)?;
+    print_line_parts(printer, seed)?;
     print_groups(printer, random)?;
     print_distortions(printer, random)?;
     print_records(printer, random)?;
     print_record_edges(printer)?;
+    print_observations(printer, seed)?;
     print_verdicts(printer)?;
     print_columns(printer, random)?;
     print_listings(printer, random)
