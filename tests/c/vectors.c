@@ -64,7 +64,7 @@ static void on_spectrum(void)
     line_count = (size_t)number[1];
     for (size_t i = 0; i < line_count; i++)
         lines[i] = BEFORE;
-    uint32_t refusal = kifsang_spectrum(recording, recording_length, (size_t)number[0], lines, line_count);
+    uint32_t refusal = kifsang_spectrum(recording, recording_length, number[0], lines, line_count);
     same("spectrum", refusal, number[2]);
     lines_are_ours = refusal == KIFSANG_NO_REFUSAL;
     for (size_t i = 0; !lines_are_ours && i < line_count; i++)
@@ -80,6 +80,19 @@ static void on_lines(void)
     lines_are_ours = 0;
     line_count = count;
     memcpy(lines, number, count * sizeof *lines);
+}
+
+static void on_lines_from(void)
+{
+    static uint64_t part[MOST_NUMBERS];
+    size_t part_count = (size_t)number[2];
+    for (size_t i = 0; i <= part_count; i++)
+        part[i] = BEFORE;
+    uint32_t refusal = kifsang_lines_from(recording, recording_length, number[0], number[1], part, part_count);
+    same("lines from", refusal, number[3]);
+    same("count of lines from", count - 4, refusal == KIFSANG_NO_REFUSAL ? part_count : 0);
+    for (size_t i = 0; i <= part_count; i++)
+        same("line of a part", part[i], 4 + i < count ? number[4 + i] : BEFORE);
 }
 
 static void on_row(void)
@@ -138,6 +151,41 @@ static void on_add_row(void)
     take_row(row, number + 2);
     same("add row", kifsang_add_row(record, KIFSANG_RECORD_WORDS, (uint32_t)number[1], row, KIFSANG_ORDER_COUNT), number[0]);
     record_is_ours = 1;
+}
+
+/* The record after windows back to back by the calls one by one, up to the first that is refused. */
+static uint32_t chain(uint64_t start, uint64_t windows, uint32_t system, uint32_t kind,
+                      uint64_t chained[KIFSANG_RECORD_WORDS])
+{
+    uint64_t spectrum[KIFSANG_LINE_COUNT];
+    uint32_t row[KIFSANG_ORDER_COUNT];
+    uint32_t refusal = kifsang_fresh_record(system, chained, KIFSANG_RECORD_WORDS);
+    for (uint64_t i = 0; refusal == KIFSANG_NO_REFUSAL && i < windows; i++) {
+        refusal = kifsang_spectrum(recording, recording_length, start + i * KIFSANG_WINDOW_LENGTH, spectrum,
+                                   KIFSANG_LINE_COUNT);
+        if (refusal == KIFSANG_NO_REFUSAL)
+            refusal = kifsang_row(kind, system, spectrum, KIFSANG_LINE_COUNT, row, KIFSANG_ORDER_COUNT);
+        if (refusal == KIFSANG_NO_REFUSAL)
+            refusal = kifsang_add_row(chained, KIFSANG_RECORD_WORDS, system, row, KIFSANG_ORDER_COUNT);
+    }
+    return refusal;
+}
+
+static void on_observe(void)
+{
+    uint64_t chained[KIFSANG_RECORD_WORDS];
+    uint32_t system = (uint32_t)number[2], kind = (uint32_t)number[3];
+    for (size_t i = 0; i < KIFSANG_RECORD_WORDS; i++)
+        record[i] = BEFORE;
+    uint32_t refusal = kifsang_observe(recording, recording_length, number[0], number[1], system, kind, record,
+                                       KIFSANG_RECORD_WORDS);
+    same("observe", refusal, number[4]);
+    same("the calls one by one", chain(number[0], number[1], system, kind, chained), refusal);
+    record_is_ours = refusal == KIFSANG_NO_REFUSAL;
+    if (record_is_ours)
+        same_words("the record of the calls one by one", chained, record, KIFSANG_RECORD_WORDS);
+    for (size_t i = 0; !record_is_ours && i < KIFSANG_RECORD_WORDS; i++)
+        same("the record of a refused observe", record[i], BEFORE);
 }
 
 static void on_record(void)
@@ -206,11 +254,13 @@ static const struct {
     {"recording", on_recording},
     {"spectrum", on_spectrum},
     {"lines", on_lines},
+    {"lines_from", on_lines_from},
     {"row", on_row},
     {"group_value", on_group_value},
     {"distortion", on_distortion},
     {"fresh_record", on_fresh_record},
     {"add_row", on_add_row},
+    {"observe", on_observe},
     {"record", on_record},
     {"verdict", on_verdict},
     {"read_column", on_read_column},
