@@ -8,7 +8,7 @@ use reference::rows::Row;
 use reference::verdict::{order_verdict, Question, Verdict};
 
 /// The words of a record, in the interface's order.
-fn words(record: &Observation) -> Vec<u64> {
+pub fn words(record: &Observation) -> Vec<u64> {
     let mut words = vec![record.system, record.windows];
     words.extend(record.smoothed);
     words.extend(record.sum);
