@@ -1,49 +1,47 @@
 /* Each call of the core against the same work in plain C, in one run, on the same values. Results are
  * compared before anything is timed. Printed: the minimum time of a call on each side, and the ratio.
- * The spectrum has a benchmark of its own (spectrum.c). */
+ * The spectrum has a benchmark of its own (spectrum.c). The record after 50 windows is worked out by
+ * kifsang_observe and, beside it, by the calls one by one. */
 #define _POSIX_C_SOURCE 199309L
 #include "kifsang.h"
+#include "plain.h"
 
-#include <math.h>
 #include <stdio.h>
 #include <stdlib.h>
 #include <string.h>
 #include <time.h>
 
-#define ORDERS KIFSANG_ORDER_COUNT
+#define SYSTEM 10
+#define WINDOWS 50
 #define BATCHES 61
-#define CALLS 400
 
-static uint64_t lines[KIFSANG_LINE_COUNT];
+static int32_t recording[WINDOWS * SAMPLES];
+static uint64_t lines[LINES];
+static uint64_t core_part[13], c_part[13];
 static uint64_t core_record[KIFSANG_RECORD_WORDS], c_record[KIFSANG_RECORD_WORDS];
 static uint64_t sound_record[KIFSANG_RECORD_WORDS];
+static uint64_t observed[KIFSANG_RECORD_WORDS], one_by_one[KIFSANG_RECORD_WORDS], c_observed[KIFSANG_RECORD_WORDS];
 static uint32_t core_row[ORDERS], c_row[ORDERS];
 static unsigned char core_text[KIFSANG_LISTING_ROOM], c_text[KIFSANG_LISTING_ROOM];
 static volatile uint64_t result;
 
 /* ---- plain C */
 
-static uint64_t whole_root(uint64_t n)
+static void c_lines(size_t count)
 {
-    uint64_t r = (uint64_t)sqrt((double)n);
-    while (r > 0xFFFFFFFFu || r * r > n)
-        r--;
-    while (r < 0xFFFFFFFFu && (r + 1) * (r + 1) <= n)
-        r++;
-    return r;
+    for (int j = 0; j < SAMPLES; j++)
+        if (recording[j] > 131071 || recording[j] < -131071)
+            return;
+    fill_lines(recording, 45, c_part, count);
 }
 
-static void c_group_row(void)
+static void c_group_row(const uint64_t *from, uint32_t *row)
 {
-    for (int i = 0; i < KIFSANG_LINE_COUNT; i++)
-        if (lines[i] > (uint64_t)1 << 59)
+    for (int i = 0; i < LINES; i++)
+        if (from[i] > (uint64_t)1 << 59)
             return;
-    for (int h = 1; h <= ORDERS; h++) {
-        uint64_t sum = lines[10 * h - 5] + lines[10 * h + 5];
-        for (int k = 10 * h - 4; k < 10 * h + 5; k++)
-            sum += 2 * lines[k];
-        c_row[h - 1] = (uint32_t)whole_root(sum);
-    }
+    for (int h = 1; h <= ORDERS; h++)
+        row[h - 1] = harmonic_group(from, SYSTEM, h);
 }
 
 static uint64_t c_distortion(void)
@@ -74,19 +72,32 @@ static int c_sound(const uint64_t *record)
     return 1;
 }
 
-static void c_add_row(void)
+static void c_add_row(uint64_t *record, const uint32_t *row)
 {
-    if (!c_sound(c_record) || c_record[0] != 10 || c_record[1] >= 45000)
+    if (!c_sound(record) || record[0] != SYSTEM || record[1] >= 45000)
         return;
     for (int i = 0; i < ORDERS; i++) {
         uint64_t smoothed =
-            c_record[1] == 0 ? c_row[i] : (2 * (1000 * (uint64_t)c_row[i] + 7012 * c_record[2 + i]) + 8012) / 16024;
-        c_record[2 + i] = smoothed;
-        c_record[42 + i] += smoothed;
-        if (smoothed > c_record[82 + i])
-            c_record[82 + i] = smoothed;
+            record[1] == 0 ? row[i] : (2 * (1000 * (uint64_t)row[i] + 7012 * record[2 + i]) + 8012) / 16024;
+        record[2 + i] = smoothed;
+        record[42 + i] += smoothed;
+        if (smoothed > record[82 + i])
+            record[82 + i] = smoothed;
     }
-    c_record[1]++;
+    record[1]++;
+}
+
+static void c_observe(void)
+{
+    static uint64_t from[LINES];
+    static uint32_t row[ORDERS];
+    memset(c_observed, 0, sizeof c_observed);
+    c_observed[0] = SYSTEM;
+    for (int i = 0; i < WINDOWS; i++) {
+        fill_lines(recording + i * SAMPLES, 0, from, LINES);
+        c_group_row(from, row);
+        c_add_row(c_observed, row);
+    }
 }
 
 static uint32_t c_verdict(const uint64_t *record)
@@ -114,16 +125,38 @@ static void c_listing(void)
 
 /* ---- the two sides of each call */
 
-static void core_rows(void) { kifsang_row(KIFSANG_HARMONIC_GROUP, 10, lines, KIFSANG_LINE_COUNT, core_row, ORDERS); }
+static void core_line(void) { result = kifsang_lines_from(recording, SAMPLES, 0, 45, core_part, 1); }
+static void plain_line(void) { c_lines(1); }
+static void core_lines(void) { result = kifsang_lines_from(recording, SAMPLES, 0, 45, core_part, 13); }
+static void plain_lines(void) { c_lines(13); }
+static void core_rows(void) { kifsang_row(KIFSANG_HARMONIC_GROUP, SYSTEM, lines, LINES, core_row, ORDERS); }
+static void plain_rows(void) { c_group_row(lines, c_row); }
 static void core_distortion(void) { uint64_t t = 0; kifsang_distortion(core_row, ORDERS, &t); result = t; }
 static void plain_distortion(void) { result = c_distortion(); }
-static void core_add(void) { kifsang_add_row(core_record, KIFSANG_RECORD_WORDS, 10, core_row, ORDERS); }
+static void core_add(void) { kifsang_add_row(core_record, KIFSANG_RECORD_WORDS, SYSTEM, core_row, ORDERS); }
+static void plain_add(void) { c_add_row(c_record, c_row); }
 static void core_verdict(void) { uint32_t v = 9; kifsang_verdict(sound_record, KIFSANG_RECORD_WORDS, 3, 1000000, &v); result = v; }
 static void plain_verdict(void) { result = c_verdict(sound_record); }
 static void core_listing(void)
 {
     uint64_t written;
     kifsang_fill_listing(core_row, ORDERS, core_row, ORDERS, core_row, ORDERS, core_text, KIFSANG_LISTING_ROOM, &written);
+}
+static void core_observe(void)
+{
+    result = kifsang_observe(recording, WINDOWS * SAMPLES, 0, WINDOWS, SYSTEM, KIFSANG_HARMONIC_GROUP, observed,
+                             KIFSANG_RECORD_WORDS);
+}
+static void core_one_by_one(void)
+{
+    static uint64_t from[LINES];
+    static uint32_t row[ORDERS];
+    kifsang_fresh_record(SYSTEM, one_by_one, KIFSANG_RECORD_WORDS);
+    for (uint64_t i = 0; i < WINDOWS; i++) {
+        kifsang_spectrum(recording, WINDOWS * SAMPLES, i * SAMPLES, from, LINES);
+        kifsang_row(KIFSANG_HARMONIC_GROUP, SYSTEM, from, LINES, row, ORDERS);
+        kifsang_add_row(one_by_one, KIFSANG_RECORD_WORDS, SYSTEM, row, ORDERS);
+    }
 }
 
 static double seconds(void)
@@ -133,14 +166,14 @@ static double seconds(void)
     return (double)now.tv_sec + 1e-9 * (double)now.tv_nsec;
 }
 
-static double least_time(void (*call)(void))
+static double least_time(void (*call)(void), int calls)
 {
     double least = 1e9;
     for (int batch = 0; batch < BATCHES; batch++) {
         double start = seconds();
-        for (int i = 0; i < CALLS; i++)
+        for (int i = 0; i < calls; i++)
             call();
-        double time = (seconds() - start) / CALLS;
+        double time = (seconds() - start) / calls;
         if (time < least)
             least = time;
     }
@@ -158,16 +191,31 @@ static void same(const char *name, const void *core, const void *plain, size_t s
 int main(void)
 {
     uint64_t state = 88172645463325252u, from_core, from_c;
-    for (int i = 0; i < KIFSANG_LINE_COUNT; i++) {
+    for (int i = 0; i < LINES; i++) {
         state ^= state << 13;
         state ^= state >> 7;
         state ^= state << 17;
         lines[i] = state >> 6;
     }
-    kifsang_fresh_record(10, core_record, KIFSANG_RECORD_WORDS);
+    for (int i = 0; i < WINDOWS * SAMPLES; i++) {
+        state ^= state << 13;
+        state ^= state >> 7;
+        state ^= state << 17;
+        recording[i] = (int32_t)(state % 262143) - 131071;
+    }
+    fill_wave();
+    core_lines();
+    plain_lines();
+    same("lines_from", core_part, c_part, sizeof c_part);
+    core_observe();
+    core_one_by_one();
+    c_observe();
+    same("observe", observed, c_observed, sizeof observed);
+    same("the calls one by one", one_by_one, c_observed, sizeof observed);
+    kifsang_fresh_record(SYSTEM, core_record, KIFSANG_RECORD_WORDS);
     memcpy(c_record, core_record, sizeof c_record);
     core_rows();
-    c_group_row();
+    plain_rows();
     same("row", core_row, c_row, sizeof core_row);
     core_distortion();
     from_core = result;
@@ -176,7 +224,7 @@ int main(void)
     same("distortion", &from_core, &from_c, sizeof from_c);
     for (int i = 0; i < 3; i++) {
         core_add();
-        c_add_row();
+        plain_add();
     }
     same("add_row", core_record, c_record, sizeof c_record);
     memcpy(sound_record, core_record, sizeof core_record);
@@ -193,14 +241,22 @@ int main(void)
     static const struct {
         const char *name;
         void (*core)(void), (*plain)(void);
+        int calls; /* in a batch */
     } calls[] = {
-        {"row", core_rows, c_group_row},         {"distortion", core_distortion, plain_distortion},
-        {"add_row", core_add, c_add_row},        {"verdict", core_verdict, plain_verdict},
-        {"fill_listing", core_listing, c_listing},
+        {"lines_from, one line", core_line, plain_line, 400},
+        {"lines_from, 13 lines", core_lines, plain_lines, 100},
+        {"row", core_rows, plain_rows, 400},
+        {"distortion", core_distortion, plain_distortion, 400},
+        {"add_row", core_add, plain_add, 400},
+        {"verdict", core_verdict, plain_verdict, 400},
+        {"fill_listing", core_listing, c_listing, 400},
+        {"observe, 50 windows", core_observe, c_observe, 1},
+        {"one by one, 50 windows", core_one_by_one, c_observe, 1},
     };
     for (size_t i = 0; i < sizeof calls / sizeof calls[0]; i++) {
-        double core = least_time(calls[i].core), plain = least_time(calls[i].plain);
-        printf("%-13s core %8.3f us, C %8.3f us, ratio %5.2f\n", calls[i].name, 1e6 * core, 1e6 * plain, core / plain);
+        double core = least_time(calls[i].core, calls[i].calls), plain = least_time(calls[i].plain, calls[i].calls);
+        printf("%-22s core %9.3f us, C %9.3f us, ratio %5.2f\n", calls[i].name, 1e6 * core, 1e6 * plain,
+               core / plain);
     }
     return 0;
 }

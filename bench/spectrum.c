@@ -4,45 +4,19 @@
  * Unit of work: one window, 512 lines. Printed: minimum and median of the runs, and the ratio of
  * the core's time to that of C. */
 #define _POSIX_C_SOURCE 199309L
-#include <math.h>
-#include <stdint.h>
+#include "kifsang.h"
+#include "plain.h"
+
 #include <stdio.h>
 #include <stdlib.h>
 #include <string.h>
 #include <time.h>
 
-#define SAMPLES 2048
-#define LINES 512
 #define RUNS 101
-
-/* The core's call: a slice is a pointer and a length. */
-extern uint32_t kifsang_spectrum(const int32_t *recording, size_t recording_length, size_t start,
-                                 uint64_t *lines, size_t line_count);
-
-static int32_t wave[SAMPLES];
-
-static void fill_wave(void)
-{
-    for (int i = 0; i < SAMPLES; i++)
-        wave[i] = (int32_t)floorl(sinl((long double)i * (acosl(-1.0L) / 1024)) * 1073741824.0L + 0.5L);
-}
-
-/* The direct sums, as document 01 writes them. */
-static int64_t direct_sum(const int32_t *window, size_t k, size_t phase)
-{
-    int64_t sum = 0;
-    for (size_t j = 0; j < SAMPLES; j++)
-        sum += (int64_t)window[j] * wave[(j * k + phase) & (SAMPLES - 1)];
-    return (sum + ((int64_t)1 << 28)) >> 29;
-}
 
 __attribute__((noinline)) static void direct_spectrum(const int32_t *window, uint64_t *lines)
 {
-    for (size_t k = 0; k < LINES; k++) {
-        int64_t a = direct_sum(window, k, 512);
-        int64_t b = direct_sum(window, k, 0);
-        lines[k] = (uint64_t)(a * a) + (uint64_t)(b * b);
-    }
+    fill_lines(window, 0, lines, LINES);
 }
 
 static double seconds(void)

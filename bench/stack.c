@@ -17,11 +17,16 @@ static unsigned char text[KIFSANG_LISTING_ROOM];
 static int64_t signed_number;
 
 static void spectrum(void) { kifsang_spectrum(window, KIFSANG_WINDOW_LENGTH, 0, lines, KIFSANG_LINE_COUNT); }
+static void lines_from(void) { kifsang_lines_from(window, KIFSANG_WINDOW_LENGTH, 0, 45, lines, 13); }
 static void group_value(void) { kifsang_group_value(1, 10, 3, lines, KIFSANG_LINE_COUNT, &number); }
 static void whole_row(void) { kifsang_row(1, 10, lines, KIFSANG_LINE_COUNT, row, KIFSANG_ORDER_COUNT); }
 static void distortion(void) { kifsang_distortion(row, KIFSANG_ORDER_COUNT, &number); }
 static void fresh_record(void) { kifsang_fresh_record(10, record, KIFSANG_RECORD_WORDS); }
 static void add_row(void) { kifsang_add_row(record, KIFSANG_RECORD_WORDS, 10, row, KIFSANG_ORDER_COUNT); }
+static void observe(void)
+{
+    kifsang_observe(window, KIFSANG_WINDOW_LENGTH, 0, 1, 10, 1, record, KIFSANG_RECORD_WORDS);
+}
 static void judge(void) { kifsang_verdict(record, KIFSANG_RECORD_WORDS, 3, 1000000, &verdict); }
 static void read_column(void) { kifsang_read_column(text, KIFSANG_COLUMN_WIDTH, &signed_number); }
 static void write_column(void) { kifsang_write_column(text, KIFSANG_COLUMN_WIDTH, -7); }
@@ -63,10 +68,10 @@ int main(void)
         const char *name;
         void (*call)(void);
     } calls[] = {
-        {"spectrum", spectrum},         {"group_value", group_value},   {"row", whole_row},
-        {"distortion", distortion},     {"fresh_record", fresh_record}, {"add_row", add_row},
-        {"verdict", judge},             {"write_column", write_column}, {"read_column", read_column},
-        {"fill_listing", fill_listing},
+        {"spectrum", spectrum},         {"lines_from", lines_from},     {"group_value", group_value},
+        {"row", whole_row},             {"distortion", distortion},     {"fresh_record", fresh_record},
+        {"add_row", add_row},           {"observe", observe},           {"verdict", judge},
+        {"write_column", write_column}, {"read_column", read_column},   {"fill_listing", fill_listing},
     };
     for (int i = 0; i < KIFSANG_WINDOW_LENGTH; i++)
         window[i] = i % 97 * 1000 - 48000;

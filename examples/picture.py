@@ -1,6 +1,6 @@
 #!/usr/bin/env python3
 """Draws a report of examples/c/report.c as a picture: for each order a bar of the average with its
-band, in the colour of the verdict, and the peak as a ring, beside their limits. Limits, band and
+margin, in the colour of the verdict, and the peak as a ring, beside their limits. Limits, margin and
 verdicts are those of the report. Writes SVG; refuses what is no report, with status 1, and every
 argument, with status 2.
 
@@ -13,7 +13,7 @@ import sys
 from typing import NamedTuple, Optional
 
 ORDERS = 40
-HEAD = ["system", "windows", "units per ampere", "band, units"]
+HEAD = ["system", "windows", "units per ampere", "margin, units"]
 COLUMNS = "order  average, units  peak, units  limit, mA  peak limit, mA  verdict"
 WHOLE, DECIMAL = " +([0-9]{1,20})", r" +([0-9]{1,20}\.[0-9]{1,20})"
 LINE = re.compile(f"{WHOLE}{DECIMAL}{WHOLE}(?:{DECIMAL}{DECIMAL}  (within|close|over)| +-  +-  -)")
@@ -58,7 +58,7 @@ def read_report(text):
 
 def picture(head, orders):
     """The picture's lines."""
-    system, windows, units_per_ampere, band = head
+    system, windows, units_per_ampere, margin = head
     highest = max(max(order.peak / units_per_ampere, (order.peak_limit or 0) / 1000) for order in orders)
     least, most = math.log10(LEAST), math.ceil(math.log10(max(highest, 10 * LEAST)))
     step = (WIDTH - LEFT - RIGHT) / ORDERS
@@ -94,7 +94,7 @@ def picture(head, orders):
         x = LEFT + (number - 1) * step
         middle = x + step / 2
         top = height(order.average / units_per_ampere)
-        low, high = (height((order.average + way * band) / units_per_ampere) for way in (-1, 1))
+        low, high = (height((order.average + way * margin) / units_per_ampere) for way in (-1, 1))
         out.append(bar(x + 3, top, step - 6, foot - top, COLOURS[order.verdict]))
         if order.limit is not None:
             y, y_peak = height(order.limit / 1000), height(order.peak_limit / 1000)
@@ -117,7 +117,7 @@ def picture(head, orders):
         words(x + 186, y, "limit of the peak"),
         ring(x + 310, y - 4),
         words(x + 320, y, "peak"),
-        words(LEFT, y + 22, f"Bars by order are averages; the band is {band} units, {band / units_per_ampere * 1e6:.2f} &#181;A, either way."),
+        words(LEFT, y + 22, f"Bars by order are averages; the margin is {margin} units, {margin / units_per_ampere * 1e6:.2f} &#181;A, either way."),
         "</svg>",
     ]
     return out

@@ -14,6 +14,11 @@
  *     kifsang_add_row        a record and a row           ->  the record with one window more
  *     kifsang_verdict        a record and an order        ->  within, close or over
  *
+ *     The first four in one call, for windows that stand back to back in memory; and any lines alone:
+ *
+ *     kifsang_observe        windows and a system         ->  the record after them
+ *     kifsang_lines_from     a window and a first line    ->  so many lines from that one on
+ *
  * Samples and their rate
  *
  *     A sample is a converter count, -131071..131071. A window is 2,048 samples that span `system`
@@ -54,8 +59,8 @@
  *     A record is 122 words that the caller keeps; the calls read and write them at the places below.
  *     It is sound if its system is 10 or 12, it holds at most 45,000 windows (2.5 hours), no sum is
  *     above windows * (2^32 - 1), no smoothed value and no peak is above 2^32 - 1, and with no window
- *     all the others are 0. A record that the calls made stays sound; any other 122 words may be
- *     handed over, and are judged by this alone.
+ *     all the others are 0 (isSound, crates/observation/specs/Soundness.antt). A record that the calls
+ *     made stays sound; any other 122 words may be handed over, and are judged by this alone.
  *
  * Memory and threads
  *
@@ -68,9 +73,9 @@
  *
  * Refusals
  *
- *     Each function returns KIFSANG_NO_REFUSAL, or the number of the first check that failed, in the
- *     order listed with it. A refused call leaves every buffer as it was, so look at the number before
- *     the buffer. No verdict has the number 0.
+ *     Each function returns KIFSANG_NO_REFUSAL where it accepts the call, or the number of the first
+ *     fault, in the order listed with it. A refused call leaves every buffer as it was, so look at the
+ *     number before the buffer. No verdict has the number 0.
  *
  * Linking
  *
@@ -78,8 +83,8 @@
  *
  * "Definition" names what the result is proved to equal, and the file that has it. "Proved error" names
  * a theorem about these very functions: exported-demand3 speaks of what they leave in the caller's
- * buffers, after any calls in any order, refused ones included
- * (crates/exported_accuracy/specs/Claim.antt, proved in crates/exported_accuracy/proofs).
+ * buffers, after any calls in any order, refused ones included (ExportedDemand3Holds,
+ * crates/exported_accuracy/specs/Claim.antt).
  */
 #ifndef KIFSANG_H
 #define KIFSANG_H
@@ -93,6 +98,7 @@ extern "C" {
 /* Lengths, the unit, and the largest arguments. */
 #define KIFSANG_WINDOW_LENGTH 2048      /* samples in a window */
 #define KIFSANG_LINE_COUNT 512          /* lines of a spectrum */
+#define KIFSANG_LINE_LIMIT 1024         /* the numbers of lines are below it */
 #define KIFSANG_ORDER_COUNT 40          /* values of a row: the orders 1..40 */
 #define KIFSANG_UNITS_PER_COUNT 4096    /* units in a sample count */
 #define KIFSANG_LARGEST_SAMPLE 131071   /* the largest size of a sample, in counts */
@@ -109,13 +115,13 @@ extern "C" {
 #define KIFSANG_PEAK_PLACE (KIFSANG_SUM_PLACE + KIFSANG_ORDER_COUNT)
 #define KIFSANG_RECORD_WORDS (KIFSANG_PEAK_PLACE + KIFSANG_ORDER_COUNT)
 
-/* Why a call did nothing. */
+/* Why a call was refused. */
 enum kifsang_refusal {
-    KIFSANG_NO_REFUSAL = 0,           /* the call worked */
+    KIFSANG_NO_REFUSAL = 0,           /* the call was accepted */
     KIFSANG_UNKNOWN_SYSTEM = 1,       /* the system is neither 10 nor 12 */
     KIFSANG_SHORT_WINDOW = 2,         /* fewer than 2,048 samples from the start */
     KIFSANG_SAMPLE_OUT_OF_RANGE = 3,  /* a sample of the window is outside -131071..131071 */
-    KIFSANG_WRONG_LINE_COUNT = 4,     /* a buffer of lines that does not hold 512 */
+    KIFSANG_WRONG_LINE_COUNT = 4,     /* not 512 lines, or lines past number 1023 */
     KIFSANG_LINE_TOO_LARGE = 5,       /* a line above 2^59 */
     KIFSANG_ORDER_OUT_OF_RANGE = 6,   /* an order outside the orders of the call */
     KIFSANG_UNSOUND_RECORD = 7,       /* words that are not a sound record */
@@ -163,10 +169,31 @@ typedef char kifsang_assert_record_of_122_words[KIFSANG_RECORD_WORDS == 122 ? 1 
  *   window outside -131071..131071. A refused call leaves the lines as they were.
  * Proved error: A and B of each line are each at most 3/4 from those with the exact cosine and sine,
  *   unrounded (cosine-sum-near and sine-sum-near, crates/spectrum/proofs/Distance.antt).
- * Definition: spectrumRefusal and spectrumBuffer, crates/spectrum/specs/Spectrum.antt.
+ * Definition: spectrumRefusal and spectrumExit, crates/spectrum/specs/Spectrum.antt.
  */
 uint32_t kifsang_spectrum(const int32_t *recording, uint64_t recording_length, uint64_t start,
                           uint64_t *lines, uint64_t line_count);
+
+/*
+ * Works out the spectral lines first, first + 1, .. of a window, as many as the buffer holds: the lines
+ * of one group alone, say, or those above 511. Each is what the formulas say for its number, so those
+ * below 512 are kifsang_spectrum's.
+ *
+ *   recording         in    recording_length samples, in counts; only the window is looked at
+ *   recording_length  in    samples of the recording, any
+ *   start             in    the place of the window's first sample, any
+ *   first             in    the number of the first line, 0..1024
+ *   lines             out   line_count lines
+ *   line_count        in    0..1024 - first; where it is 0 nothing is written
+ *
+ * Refusals: 2 fewer than 2,048 samples from the start; 4 first + line_count is above 1024, line 1023
+ *   being the last; 3 a sample of the window outside -131071..131071. A refused call leaves the lines
+ *   as they were.
+ * Proved error: that of kifsang_spectrum, for each line.
+ * Definition: linesFromRefusal and linesFromExit, crates/spectrum/specs/Spectrum.antt.
+ */
+uint32_t kifsang_lines_from(const int32_t *recording, uint64_t recording_length, uint64_t start,
+                            uint64_t first, uint64_t *lines, uint64_t line_count);
 
 /*
  * Works out one group value.
@@ -182,7 +209,7 @@ uint32_t kifsang_spectrum(const int32_t *recording, uint64_t recording_length, u
  *   5 a line above 2^59. A refused call leaves the value as it was.
  * Proved error: for the lines that kifsang_spectrum left for a window, the value is at most 7 units
  *   from the exact group (exported-demand3).
- * Definition: groupCallRefusal and groupCallValue, crates/kifsang/specs/GroupCalls.antt.
+ * Definition: groupCallRefusal and groupCallExit, crates/kifsang/specs/GroupCalls.antt.
  */
 uint32_t kifsang_group_value(uint32_t kind, uint32_t system, uint32_t order, const uint64_t *lines,
                              uint64_t line_count, uint64_t *value);
@@ -201,7 +228,7 @@ uint32_t kifsang_group_value(uint32_t kind, uint32_t system, uint32_t order, con
  *   512; 5 a line above 2^59. A refused call leaves the values as they were.
  * Proved error: that of kifsang_group_value, for each order. For the lines that kifsang_spectrum left
  *   for a window, the row is one of those that kifsang_add_row speaks of (exported-demand3).
- * Definition: rowCallRefusal and rowCallValues, crates/kifsang/specs/GroupCalls.antt.
+ * Definition: rowCallRefusal and rowCallExit, crates/kifsang/specs/GroupCalls.antt.
  */
 uint32_t kifsang_row(uint32_t kind, uint32_t system, const uint64_t *lines, uint64_t line_count,
                      uint32_t *values, uint64_t value_count);
@@ -217,7 +244,7 @@ uint32_t kifsang_row(uint32_t kind, uint32_t system, const uint64_t *lines, uint
  * Refusals: 102 value_count is not 40; 12 the value of order 1 is 0. A refused call leaves
  *   parts_per_thousand as it was.
  * Proved error: none, t is exact for the values that are given.
- * Definition: distortionCallRefusal and distortionCallValue, crates/kifsang/specs/GroupCalls.antt.
+ * Definition: distortionCallRefusal and distortionCallExit, crates/kifsang/specs/GroupCalls.antt.
  */
 uint32_t kifsang_distortion(const uint32_t *values, uint64_t value_count,
                             uint64_t *parts_per_thousand);
@@ -232,7 +259,7 @@ uint32_t kifsang_distortion(const uint32_t *values, uint64_t value_count,
  * Refusals: 102 record_words is not 122; 1 system not 10 or 12. A refused call leaves the record as
  *   it was.
  * Proved error: none.
- * Definition: freshCallRefusal and freshCallWords, crates/kifsang/specs/RecordCalls.antt.
+ * Definition: freshCallRefusal and freshCallExit, crates/kifsang/specs/RecordCalls.antt.
  */
 uint32_t kifsang_fresh_record(uint32_t system, uint64_t *record, uint64_t record_words);
 
@@ -253,10 +280,36 @@ uint32_t kifsang_fresh_record(uint32_t system, uint64_t *record, uint64_t record
  * Proved error: after any calls since a fresh record, where the rows that were added come from
  *   kifsang_spectrum and kifsang_row, all of one kind and with their own system, each smoothed value is
  *   at most 12 units from the exact one (exported-demand3).
- * Definition: addRowCallRefusal and addRowCallWords, crates/kifsang/specs/RecordCalls.antt.
+ * Definition: addRowCallRefusal and addRowCallExit, crates/kifsang/specs/RecordCalls.antt.
  */
 uint32_t kifsang_add_row(uint64_t *record, uint64_t record_words, uint32_t system,
                          const uint32_t *values, uint64_t value_count);
+
+/*
+ * Observes windows that stand back to back: leaves the record after them, with the row of one kind of
+ * each. It is what kifsang_fresh_record and then, for each window, kifsang_spectrum, kifsang_row and
+ * kifsang_add_row would leave.
+ *
+ *   recording         in    recording_length samples, in counts; only the windows are looked at
+ *   recording_length  in    samples of the recording, any
+ *   start             in    the place of the first window's first sample, any
+ *   windows           in    0..45000; 0 leaves a fresh record
+ *   system            in    10 or 12 cycles in a window
+ *   kind              in    0..4, an enum kifsang_kind
+ *   record            out   record_words words, at the places above
+ *   record_words      in    122
+ *
+ * Refusals: 101 no such kind; 102 record_words is not 122; 1 system not 10 or 12; then for each window
+ *   in turn: 2 fewer than 2,048 samples from its start; 3 a sample of it outside -131071..131071; 9
+ *   45,000 windows are before it. A refused call leaves the record as it was.
+ * Proved error: each smoothed value is at most 12 units from the exact one, and a verdict that is asked
+ *   of the record keeps what kifsang_verdict says of it (exported-demand3).
+ * Definition: observeAnswer, crates/observe/specs/Observe.antt, and observeCallRefusal and
+ *   observeCallExit, crates/kifsang/specs/RecordCalls.antt.
+ */
+uint32_t kifsang_observe(const int32_t *recording, uint64_t recording_length, uint64_t start,
+                         uint64_t windows, uint32_t system, uint32_t kind, uint64_t *record,
+                         uint64_t record_words);
 
 /*
  * Judges an order against its class A limit: the average of its smoothed values against the limit,
@@ -274,7 +327,7 @@ uint32_t kifsang_add_row(uint64_t *record, uint64_t record_words, uint32_t syste
  *   2..40; 11 units_per_ampere outside 1..2^28. A refused call leaves the verdict as it was.
  * Proved error: after calls as above, within and over hold for the exact average and peak too; close
  *   is given only where the average or the peak is at most 12 units from its limit (exported-demand3).
- * Definition: verdictCallRefusal and verdictCallNumber, crates/kifsang/specs/RecordCalls.antt.
+ * Definition: verdictCallRefusal and verdictCallExit, crates/kifsang/specs/RecordCalls.antt.
  */
 uint32_t kifsang_verdict(const uint64_t *record, uint64_t record_words, uint32_t order,
                          uint32_t units_per_ampere, uint32_t *verdict);
@@ -290,7 +343,7 @@ uint32_t kifsang_verdict(const uint64_t *record, uint64_t record_words, uint32_t
  * Refusals: 13 text_length is not 8, or the text is not of the form. A refused call leaves the number
  *   as it was.
  * Proved error: none.
- * Definition: columnReadOf, crates/columns/specs/Calls.antt, and columnCallNumber,
+ * Definition: columnReadAnswer, crates/columns/specs/Calls.antt, and columnCallExit,
  *   crates/kifsang/specs/ColumnCalls.antt.
  */
 uint32_t kifsang_read_column(const uint8_t *text, uint64_t text_length, int64_t *number);
@@ -305,15 +358,15 @@ uint32_t kifsang_read_column(const uint8_t *text, uint64_t text_length, int64_t 
  * Refusals: 14 buffer_length is not 8; 13 the number is wider than 8 bytes. A refused call leaves the
  *   buffer as it was.
  * Proved error: none.
- * Definition: columnWriteFault and columnWritten, crates/columns/specs/Calls.antt.
+ * Definition: columnWriteRefusal and columnWriteExit, crates/columns/specs/Calls.antt.
  */
 uint32_t kifsang_write_column(uint8_t *buffer, uint64_t buffer_length, int64_t number);
 
 /*
- * Fills a buffer with the listing of three rows: a header, and a line of 40 bytes for each order of
- * which a value is not 0, and for order 1 always. Bytes 1..3 of a line hold the order, 4..15 the group,
- * 16..27 the subgroup, 28..39 the smoothed value, right-justified, and byte 40 a newline; the header has
- * the names h, group, subgroup and smoothed at these bytes.
+ * Fills a buffer with the listing of three rows: a header, and a text line of 40 bytes for each order
+ * of which a value is not 0, and for order 1 always. Bytes 1..3 of a text line hold the order, 4..15 the
+ * group, 16..27 the subgroup, 28..39 the smoothed value, right-justified, and byte 40 a newline; the
+ * header has the names h, group, subgroup and smoothed at these bytes.
  *
  *   group           in    group_count values of the harmonic groups, in units
  *   group_count     in    40
@@ -328,7 +381,7 @@ uint32_t kifsang_write_column(uint8_t *buffer, uint64_t buffer_length, int64_t n
  * Refusals: 102 one of the three counts is not 40; 14 buffer_length below 1640. A refused call leaves
  *   the buffer and written as they were.
  * Proved error: none.
- * Definition: listingCallRefusal, listingCallBytes and listingCallCount,
+ * Definition: listingCallRefusal, listingCallExit and listingCallCountExit,
  *   crates/kifsang/specs/ListingCall.antt.
  */
 uint32_t kifsang_fill_listing(const uint32_t *group, uint64_t group_count, const uint32_t *subgroup,

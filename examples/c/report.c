@@ -4,7 +4,7 @@
  *
  * The recording has the input form of harmlist: a line with the system, then a line for each sample,
  * windows back to back; a line is a number column of 8 bytes and a newline. Verdicts, limits and the
- * band around them are the core's: this program has no rule of its own.
+ * margin around them are the core's: this program has no rule of its own.
  *
  * Where the recording has a fault, the output is only the line that harmlist writes for it, `refused`
  * and a number; units per ampere that the core refuses give such a line with 11. The exit status is
@@ -21,7 +21,7 @@
 /* The limit of one of the two tests of an order. */
 struct limit {
     double milliamperes;
-    uint64_t band; /* units either way in which the core answers close */
+    uint64_t margin; /* units either way in which the core answers close */
 };
 
 /* What the core says of an order. */
@@ -112,7 +112,7 @@ static uint32_t find_last(uint32_t order, int place, uint32_t verdict, uint64_t 
     return refusal;
 }
 
-/* The limit lies in the middle of the values that are close, and they reach the band either way. */
+/* The limit lies in the middle of the values that are close, and they reach the margin either way. */
 static uint32_t find_limit(uint32_t order, int place, struct limit *limit)
 {
     uint64_t within = 0, close = 0;
@@ -120,7 +120,7 @@ static uint32_t find_limit(uint32_t order, int place, struct limit *limit)
     if (refusal == KIFSANG_NO_REFUSAL)
         refusal = find_last(order, place, KIFSANG_CLOSE, &close);
     limit->milliamperes = 1000.0 * (double)(within + close) / 2 / KIFSANG_LARGEST_SCALE;
-    limit->band = (close - within) / 2;
+    limit->margin = (close - within) / 2;
     return refusal;
 }
 
@@ -147,7 +147,7 @@ static void print_report(const uint64_t record[KIFSANG_RECORD_WORDS], uint32_t u
     printf("system            %9" PRIu64 "\n", record[KIFSANG_SYSTEM_PLACE]);
     printf("windows           %9" PRIu64 "\n", windows);
     printf("units per ampere  %9" PRIu32 "\n", units_per_ampere);
-    printf("band, units       %9" PRIu64 "\n\n", judgements[FIRST_LIMITED - 1].average.band);
+    printf("margin, units     %9" PRIu64 "\n\n", judgements[FIRST_LIMITED - 1].average.margin);
     printf("order  average, units  peak, units  limit, mA  peak limit, mA  verdict\n");
     for (int place = 0; place < KIFSANG_ORDER_COUNT; place++) {
         const struct judgement *judgement = &judgements[place];

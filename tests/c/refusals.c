@@ -1,5 +1,6 @@
-/* Every refusal of the C interface: each check of each call fails alone, and each two together, where
- * the number must be that of the one which the header lists first. The numbers stand here in figures.
+/* Every refusal of the C interface: each fault of each call alone, and each two together, where the
+ * number must be that of the one which the header lists first. The numbers stand here in figures. The 9
+ * of kifsang_observe needs 45,001 windows, and stands in tests/c/longest.c.
  *
  * All that a call is lent stands in one struct, where no word of a result is 0 and every buffer is
  * longer than the length that is told; a refused call must leave the whole struct as it was. */
@@ -15,18 +16,18 @@
 
 struct arguments {
     uint32_t kind, system, order, units_per_ampere;
-    uint64_t recording_length, start, line_count, value_count, record_words, text_length;
+    uint64_t recording_length, start, windows, first, line_count, value_count, record_words, text_length;
     uint64_t group_count, subgroup_count, smoothed_count, buffer_length;
     int64_t number;
     uint64_t value, parts_per_thousand, written;
     uint32_t verdict;
-    int32_t recording[2100];
+    int32_t recording[6200];
     uint64_t lines[520], record[130];
     uint32_t values[50], group[50], subgroup[50], smoothed[50];
     uint8_t text[16], buffer[1700];
 };
 
-/* A change of the arguments that makes a check fail, with the number of the check. */
+/* A change of the arguments that is a fault, with its number. */
 struct fault {
     uint32_t number;
     const char *what;
@@ -53,6 +54,15 @@ struct fault {
     FAULT(1, uint32_t, system, 0), \
     FAULT(1, uint32_t, system, 11), \
     FAULT(1, uint32_t, system, 13)
+#define SHORT_WINDOW_FAULTS \
+    FAULT(2, uint64_t, recording_length, 0), \
+    FAULT(2, uint64_t, recording_length, 2047), \
+    FAULT(2, uint64_t, start, 1), \
+    FAULT(2, uint64_t, start, UINT64_MAX)
+#define SAMPLE_FAULTS \
+    FAULT(3, int32_t, recording[0], 131072), \
+    FAULT(3, int32_t, recording[1023], -131072), \
+    FAULT(3, int32_t, recording[2047], INT32_MIN)
 #define LINE_COUNT_FAULTS \
     FAULT(4, uint64_t, line_count, 0), \
     FAULT(4, uint64_t, line_count, 511), \
@@ -77,14 +87,25 @@ static uint32_t spectrum(struct arguments *a)
 }
 
 static const struct fault spectrum_faults[] = {
-    FAULT(2, uint64_t, recording_length, 0),
-    FAULT(2, uint64_t, recording_length, 2047),
-    FAULT(2, uint64_t, start, 1),
-    FAULT(2, uint64_t, start, UINT64_MAX),
+    SHORT_WINDOW_FAULTS,
     LINE_COUNT_FAULTS,
-    FAULT(3, int32_t, recording[0], 131072),
-    FAULT(3, int32_t, recording[1023], -131072),
-    FAULT(3, int32_t, recording[2047], INT32_MIN),
+    SAMPLE_FAULTS,
+};
+
+static uint32_t lines_from(struct arguments *a)
+{
+    return kifsang_lines_from(a->recording, a->recording_length, a->start, a->first, a->lines, a->line_count);
+}
+
+/* Without a fault the buffer ends at line 1,023. */
+static const struct fault lines_from_faults[] = {
+    SHORT_WINDOW_FAULTS,
+    FAULT(4, uint64_t, first, 513),
+    FAULT(4, uint64_t, first, 1025),
+    FAULT(4, uint64_t, first, UINT64_MAX - 511),
+    FAULT(4, uint64_t, first, UINT64_MAX),
+    FAULT(4, uint64_t, line_count, 513),
+    SAMPLE_FAULTS,
 };
 
 static uint32_t group_value(struct arguments *a)
@@ -149,6 +170,32 @@ static const struct fault add_row_faults[] = {
     SYSTEM_FAULTS,
     FAULT(8, uint32_t, system, 12),
     FAULT(9, uint64_t, record[1], 45000),
+};
+
+static uint32_t observe(struct arguments *a)
+{
+    return kifsang_observe(a->recording, a->recording_length, a->start, a->windows, a->system, a->kind, a->record,
+                           a->record_words);
+}
+
+/* Without a fault the recording ends with the third window. */
+static const struct fault observe_faults[] = {
+    KIND_FAULTS,
+    RECORD_WORDS_FAULTS,
+    SYSTEM_FAULTS,
+    FAULT(2, uint64_t, recording_length, 0),
+    FAULT(2, uint64_t, recording_length, 2047),
+    FAULT(2, uint64_t, start, 4097),
+    FAULT(2, uint64_t, start, UINT64_MAX),
+    SAMPLE_FAULTS,
+    FAULT(2, uint64_t, recording_length, 4095),
+    FAULT(3, int32_t, recording[2048], 131072),
+    FAULT(3, int32_t, recording[4095], -131072),
+    FAULT(2, uint64_t, recording_length, 6143),
+    FAULT(3, int32_t, recording[4096], INT32_MAX),
+    FAULT(3, int32_t, recording[6143], 131072),
+    FAULT(2, uint64_t, windows, 4),
+    FAULT(2, uint64_t, windows, UINT64_MAX),
 };
 
 static uint32_t verdict(struct arguments *a)
@@ -223,8 +270,8 @@ static const struct fault fill_listing_faults[] = {
 #define CALL(name) {#name, name, name##_faults, COUNT_OF(name##_faults)}
 
 static const struct call calls[] = {
-    CALL(spectrum),     CALL(group_value), CALL(row),         CALL(distortion),   CALL(fresh_record),
-    CALL(add_row),      CALL(verdict),     CALL(read_column), CALL(write_column), CALL(fill_listing),
+    CALL(spectrum), CALL(lines_from), CALL(group_value), CALL(row),          CALL(distortion),   CALL(fresh_record),
+    CALL(add_row),  CALL(observe),    CALL(verdict),     CALL(read_column),  CALL(write_column), CALL(fill_listing),
 };
 
 static unsigned long tried;
@@ -239,7 +286,8 @@ static void same(const char *name, const char *what, const char *and_what, uint6
     exit(1);
 }
 
-/* Arguments that no call refuses, and no result of which is 0. */
+/* Arguments that no call refuses, and no result of which is 0. What no call is to look at would be
+ * refused. */
 static void fill(struct arguments *a, const struct call *call)
 {
     memset(a, FILL, sizeof *a);
@@ -247,8 +295,10 @@ static void fill(struct arguments *a, const struct call *call)
     a->system = 10;
     a->order = 3;
     a->units_per_ampere = 268435456;
-    a->recording_length = 2048;
+    a->windows = 3;
+    a->recording_length = call->run == observe ? 6144 : 2048;
     a->start = 0;
+    a->first = 512;
     a->line_count = 512;
     a->value_count = 40;
     a->record_words = 122;
@@ -258,7 +308,7 @@ static void fill(struct arguments *a, const struct call *call)
     a->number = -9999999;
     memcpy(a->text, "      -7", 8);
     for (size_t i = 0; i < COUNT_OF(a->recording); i++)
-        a->recording[i] = i % 2 == 0 ? 131071 : -131071;
+        a->recording[i] = i >= a->recording_length ? INT32_MIN : i % 2 == 0 ? 131071 : -131071;
     for (size_t i = 0; i < COUNT_OF(a->lines); i++)
         a->lines[i] = 576460752303423488 - i;
     for (size_t i = 0; i < COUNT_OF(a->record); i++)
@@ -309,6 +359,28 @@ static uint32_t verdict_of(uint32_t value)
     return verdict;
 }
 
+/* No line and no window are taken too: nothing is written, and a fresh record. */
+static void try_none(void)
+{
+    static struct arguments before, after;
+    const struct call call = CALL(lines_from);
+    fill(&before, &call);
+    before.line_count = 0;
+    for (before.first = 0; before.first <= 1024; before.first += 512) {
+        memcpy(&after, &before, sizeof after);
+        same("lines_from", "no line", "no refusal", lines_from(&after), 0);
+        same("lines_from", "no line", "all is as it was", memcmp(&before, &after, sizeof before) == 0, 1);
+    }
+    before.windows = 0;
+    for (before.recording_length = 0; before.recording_length <= 2048; before.recording_length += 1024) {
+        before.start = UINT64_MAX - before.recording_length;
+        memcpy(&after, &before, sizeof after);
+        same("observe", "no window", "no refusal", observe(&after), 0);
+        same("fresh_record", "no window", "no refusal", fresh_record(&before), 0);
+        same("observe", "no window", "a fresh record", memcmp(&before, &after, sizeof before) == 0, 1);
+    }
+}
+
 int main(void)
 {
     for (size_t i = 0; i < COUNT_OF(calls); i++)
@@ -317,6 +389,7 @@ int main(void)
     for (size_t i = 0; i < COUNT_OF(calls); i++)
         if (calls[i].run == verdict)
             try_call(&calls[i], 0);
+    try_none();
     same("verdict", "2299988", "within", verdict_of(2299988), 1);
     same("verdict", "2299989", "close", verdict_of(2299989), 2);
     same("verdict", "2300012", "close", verdict_of(2300012), 2);

@@ -64,7 +64,7 @@ static void on_spectrum(void)
     line_count = (size_t)number[1];
     for (size_t i = 0; i < line_count; i++)
         lines[i] = BEFORE;
-    uint32_t refusal = kifsang_spectrum(recording, recording_length, (size_t)number[0], lines, line_count);
+    uint32_t refusal = kifsang_spectrum(recording, recording_length, number[0], lines, line_count);
     same("spectrum", refusal, number[2]);
     lines_are_ours = refusal == KIFSANG_NO_REFUSAL;
     for (size_t i = 0; !lines_are_ours && i < line_count; i++)
@@ -82,10 +82,23 @@ static void on_lines(void)
     memcpy(lines, number, count * sizeof *lines);
 }
 
-static void on_groups(void)
+static void on_lines_from(void)
+{
+    static uint64_t part[MOST_NUMBERS];
+    size_t part_count = (size_t)number[2];
+    for (size_t i = 0; i <= part_count; i++)
+        part[i] = BEFORE;
+    uint32_t refusal = kifsang_lines_from(recording, recording_length, number[0], number[1], part, part_count);
+    same("lines from", refusal, number[3]);
+    same("count of lines from", count - 4, refusal == KIFSANG_NO_REFUSAL ? part_count : 0);
+    for (size_t i = 0; i <= part_count; i++)
+        same("line of a part", part[i], 4 + i < count ? number[4 + i] : BEFORE);
+}
+
+static void on_row(void)
 {
     uint32_t row[KIFSANG_ORDER_COUNT];
-    uint32_t kind = (uint32_t)number[0] - 1;
+    uint32_t kind = (uint32_t)number[0];
     for (size_t i = 0; i < KIFSANG_ORDER_COUNT; i++)
         row[i] = BEFORE;
     same("row", kifsang_row(kind, (uint32_t)number[1], lines, line_count, row, KIFSANG_ORDER_COUNT), 0);
@@ -97,12 +110,12 @@ static void on_groups(void)
     }
 }
 
-static void on_group(void)
+static void on_group_value(void)
 {
     uint64_t value = BEFORE;
     if (number[1] > UINT32_MAX || number[2] > UINT32_MAX)
         return;
-    uint32_t refusal = kifsang_group_value((uint32_t)number[0] - 1, (uint32_t)number[1], (uint32_t)number[2], lines, line_count, &value);
+    uint32_t refusal = kifsang_group_value((uint32_t)number[0], (uint32_t)number[1], (uint32_t)number[2], lines, line_count, &value);
     same("group", refusal, number[3]);
     same_answer("group value", value, refusal, number[4]);
 }
@@ -117,7 +130,7 @@ static void on_distortion(void)
     same_answer("parts per thousand", parts, refusal, number[1]);
 }
 
-static void on_fresh(void)
+static void on_fresh_record(void)
 {
     if (number[0] > UINT32_MAX)
         return;
@@ -140,6 +153,41 @@ static void on_add_row(void)
     record_is_ours = 1;
 }
 
+/* The record after windows back to back by the calls one by one, up to the first that is refused. */
+static uint32_t chain(uint64_t start, uint64_t windows, uint32_t system, uint32_t kind,
+                      uint64_t chained[KIFSANG_RECORD_WORDS])
+{
+    uint64_t spectrum[KIFSANG_LINE_COUNT];
+    uint32_t row[KIFSANG_ORDER_COUNT];
+    uint32_t refusal = kifsang_fresh_record(system, chained, KIFSANG_RECORD_WORDS);
+    for (uint64_t i = 0; refusal == KIFSANG_NO_REFUSAL && i < windows; i++) {
+        refusal = kifsang_spectrum(recording, recording_length, start + i * KIFSANG_WINDOW_LENGTH, spectrum,
+                                   KIFSANG_LINE_COUNT);
+        if (refusal == KIFSANG_NO_REFUSAL)
+            refusal = kifsang_row(kind, system, spectrum, KIFSANG_LINE_COUNT, row, KIFSANG_ORDER_COUNT);
+        if (refusal == KIFSANG_NO_REFUSAL)
+            refusal = kifsang_add_row(chained, KIFSANG_RECORD_WORDS, system, row, KIFSANG_ORDER_COUNT);
+    }
+    return refusal;
+}
+
+static void on_observe(void)
+{
+    uint64_t chained[KIFSANG_RECORD_WORDS];
+    uint32_t system = (uint32_t)number[2], kind = (uint32_t)number[3];
+    for (size_t i = 0; i < KIFSANG_RECORD_WORDS; i++)
+        record[i] = BEFORE;
+    uint32_t refusal = kifsang_observe(recording, recording_length, number[0], number[1], system, kind, record,
+                                       KIFSANG_RECORD_WORDS);
+    same("observe", refusal, number[4]);
+    same("the calls one by one", chain(number[0], number[1], system, kind, chained), refusal);
+    record_is_ours = refusal == KIFSANG_NO_REFUSAL;
+    if (record_is_ours)
+        same_words("the record of the calls one by one", chained, record, KIFSANG_RECORD_WORDS);
+    for (size_t i = 0; !record_is_ours && i < KIFSANG_RECORD_WORDS; i++)
+        same("the record of a refused observe", record[i], BEFORE);
+}
+
 static void on_record(void)
 {
     if (record_is_ours)
@@ -160,7 +208,7 @@ static void on_verdict(void)
     same_words("the record after a verdict", record, expected_record, KIFSANG_RECORD_WORDS);
 }
 
-static void on_column_read(void)
+static void on_read_column(void)
 {
     static unsigned char text[MOST_NUMBERS];
     int64_t value = BEFORE;
@@ -171,7 +219,7 @@ static void on_column_read(void)
     same_answer("number read", (uint64_t)value, refusal, number[1]);
 }
 
-static void on_column_write(void)
+static void on_write_column(void)
 {
     static unsigned char buffer[MOST_NUMBERS];
     memset(buffer, '#', count);
@@ -186,7 +234,7 @@ static void on_listing_values(void)
         take_row(listing_values[row], number + row * KIFSANG_ORDER_COUNT);
 }
 
-static void on_listing(void)
+static void on_fill_listing(void)
 {
     static unsigned char buffer[MOST_NUMBERS];
     uint64_t written = BEFORE;
@@ -203,13 +251,22 @@ static const struct {
     const char *word;
     void (*run)(void);
 } cases[] = {
-    {"recording", on_recording},     {"spectrum", on_spectrum},
-    {"lines", on_lines},             {"groups", on_groups},
-    {"group", on_group},             {"distortion", on_distortion},
-    {"fresh", on_fresh},             {"add_row", on_add_row},
-    {"record", on_record},           {"verdict", on_verdict},
-    {"column_read", on_column_read}, {"column_write", on_column_write},
-    {"listing_values", on_listing_values}, {"listing", on_listing},
+    {"recording", on_recording},
+    {"spectrum", on_spectrum},
+    {"lines", on_lines},
+    {"lines_from", on_lines_from},
+    {"row", on_row},
+    {"group_value", on_group_value},
+    {"distortion", on_distortion},
+    {"fresh_record", on_fresh_record},
+    {"add_row", on_add_row},
+    {"observe", on_observe},
+    {"record", on_record},
+    {"verdict", on_verdict},
+    {"read_column", on_read_column},
+    {"write_column", on_write_column},
+    {"listing_values", on_listing_values},
+    {"fill_listing", on_fill_listing},
 };
 
 int main(void)

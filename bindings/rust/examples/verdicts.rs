@@ -1,7 +1,7 @@
 //! From samples to verdicts: the current of `examples/c/verdicts.c`, judged against class A.
 
 use kifsang::{Kind, Refusal, Verdict};
-use kifsang::{LINE_COUNT, ORDER_COUNT, RECORD_WORDS, UNITS_PER_COUNT, WINDOW_LENGTH};
+use kifsang::{ORDER_COUNT, RECORD_WORDS, UNITS_PER_COUNT, WINDOW_LENGTH};
 use std::f64::consts::TAU;
 
 /// Cycles in a window: 50 Hz.
@@ -11,26 +11,26 @@ const WINDOWS: usize = 15;
 const COUNTS_PER_AMPERE: u32 = 1600;
 const UNITS_PER_AMPERE: u32 = COUNTS_PER_AMPERE * UNITS_PER_COUNT;
 
-/// One window of samples: 3 A at 50 Hz, 3.2 A at 150 Hz and 2 A at 250 Hz, peak values.
-fn next_window() -> Vec<i32> {
+/// Windows back to back: 3 A at 50 Hz, 3.2 A at 150 Hz and 2 A at 250 Hz, peak values.
+fn samples() -> Vec<i32> {
     let sample = |place: usize| {
         let angle = TAU * f64::from(SYSTEM) * place as f64 / WINDOW_LENGTH as f64;
         let amperes = 3.0 * angle.sin() + 3.2 * (3.0 * angle).sin() + 2.0 * (5.0 * angle).sin();
         (f64::from(COUNTS_PER_AMPERE) * amperes).round() as i32
     };
-    (0..WINDOW_LENGTH).map(sample).collect()
+    (0..WINDOWS * WINDOW_LENGTH).map(sample).collect()
 }
 
 fn main() -> Result<(), Refusal> {
-    let mut lines = [0; LINE_COUNT];
-    let mut row = [0; ORDER_COUNT];
     let mut record = [0; RECORD_WORDS];
-    kifsang::fresh_record(SYSTEM, &mut record)?;
-    for _ in 0..WINDOWS {
-        kifsang::spectrum(&next_window(), 0, &mut lines)?;
-        kifsang::row(Kind::HarmonicGroup, SYSTEM, &lines, &mut row)?;
-        kifsang::add_row(&mut record, SYSTEM, &row)?;
-    }
+    kifsang::observe(
+        &samples(),
+        0,
+        WINDOWS,
+        SYSTEM,
+        Kind::HarmonicGroup,
+        &mut record,
+    )?;
     for order in 2..=ORDER_COUNT as u32 {
         let name = match kifsang::verdict(&record, order, UNITS_PER_AMPERE)? {
             Verdict::Within => "within",

@@ -3,9 +3,26 @@
 //!
 //! Each function hands its slices to the core as they are and tests nothing itself: the core is
 //! proved for every input and refuses what the specification refuses. It answers `Ok`, or the number
-//! of the first check that failed, in the order listed with it; a refused call leaves every buffer as
-//! it was. Calls share no state, so they may run on several threads. Values are in units of 1/4096
-//! sample count, r.m.s.
+//! of the first fault, in the order listed with it; a refused call leaves every buffer as it was.
+//! Calls share no state, so they may run on several threads. Values are in units of 1/4096 sample
+//! count, r.m.s.
+//!
+//! From samples to verdicts:
+//!
+//! ```
+//! use kifsang::{Kind, Verdict, RECORD_WORDS, UNITS_PER_COUNT, WINDOW_LENGTH};
+//!
+//! // Fifteen windows of 0.2 s at 50 Hz: a square wave of 5 A, 1,600 counts per ampere.
+//! let recording: Vec<i32> = (0..15 * WINDOW_LENGTH)
+//!     .map(|place| if place * 20 / WINDOW_LENGTH % 2 == 0 { 8000 } else { -8000 })
+//!     .collect();
+//! let mut record = [0; RECORD_WORDS];
+//! kifsang::observe(&recording, 0, 15, 10, Kind::HarmonicGroup, &mut record)?;
+//! let units_per_ampere = 1600 * UNITS_PER_COUNT;
+//! assert_eq!(kifsang::verdict(&record, 3, units_per_ampere)?, Verdict::Within);
+//! assert_eq!(kifsang::verdict(&record, 9, units_per_ampere)?, Verdict::Over);
+//! # Ok::<(), kifsang::Refusal>(())
+//! ```
 //!
 //! The build links `libkifsang.a` from `target/staticlib` of the repository, where `make` writes it, or
 //! from the folder that the variable `KIFSANG_ARCHIVE_FOLDER` names; a relative one counts from this
@@ -17,6 +34,8 @@ use std::fmt;
 pub const WINDOW_LENGTH: usize = 2048;
 /// Lines of a spectrum.
 pub const LINE_COUNT: usize = 512;
+/// The numbers of lines are below it.
+pub const LINE_LIMIT: usize = 1024;
 /// Values of a row: the orders 1..40, the value of order h at place h - 1.
 pub const ORDER_COUNT: usize = 40;
 /// Units in a sample count.
@@ -45,7 +64,7 @@ pub const PEAK_PLACE: usize = SUM_PLACE + ORDER_COUNT;
 /// Words of a record.
 pub const RECORD_WORDS: usize = PEAK_PLACE + ORDER_COUNT;
 
-/// Why a call did nothing.
+/// Why a call was refused.
 #[derive(Clone, Copy, Debug, PartialEq, Eq)]
 pub struct Refusal(pub u32);
 
@@ -73,7 +92,7 @@ refusals! {
     1 UNKNOWN_SYSTEM "the system is neither 10 nor 12"
     2 SHORT_WINDOW "fewer than 2,048 samples from the start"
     3 SAMPLE_OUT_OF_RANGE "a sample of the window is outside -131071..131071"
-    4 WRONG_LINE_COUNT "a buffer of lines that does not hold 512"
+    4 WRONG_LINE_COUNT "not 512 lines, or lines past number 1023"
     5 LINE_TOO_LARGE "a line above 2^59"
     6 ORDER_OUT_OF_RANGE "an order outside the orders of the call"
     7 UNSOUND_RECORD "words that are not a sound record"
@@ -127,6 +146,14 @@ mod raw {
             lines: *mut u64,
             line_count: u64,
         ) -> u32;
+        pub fn kifsang_lines_from(
+            recording: *const i32,
+            recording_length: u64,
+            start: u64,
+            first: u64,
+            lines: *mut u64,
+            line_count: u64,
+        ) -> u32;
         pub fn kifsang_group_value(
             kind: u32,
             system: u32,
@@ -155,6 +182,16 @@ mod raw {
             system: u32,
             values: *const u32,
             value_count: u64,
+        ) -> u32;
+        pub fn kifsang_observe(
+            recording: *const i32,
+            recording_length: u64,
+            start: u64,
+            windows: u64,
+            system: u32,
+            kind: u32,
+            record: *mut u64,
+            record_words: u64,
         ) -> u32;
         pub fn kifsang_verdict(
             record: *const u64,
@@ -206,6 +243,44 @@ pub fn spectrum(recording: &[i32], start: usize, lines: &mut [u64]) -> Result<()
             recording.as_ptr(),
             length(recording),
             start as u64,
+            lines.as_mut_ptr(),
+            length(lines),
+        )
+    };
+    answered(refusal, ())
+}
+
+/// Works out the spectral lines `first`, `first + 1`, .. of the window that begins at `start`, as many
+/// as the buffer holds; their numbers are below [`LINE_LIMIT`]. Those below 512 are [`spectrum`]'s. Only
+/// the window is looked at, and a buffer of no lines is taken too.
+///
+/// Refusals: 2 fewer than 2,048 samples from the start; 4 the buffer reaches past line 1023; 3 a sample
+/// of the window outside -131071..131071.
+///
+/// Proved error: that of [`spectrum`], for each line.
+///
+/// ```
+/// // Every line of a single sample of 1000 is 4000000; here the last 13 of them.
+/// let mut recording = [0; kifsang::WINDOW_LENGTH];
+/// recording[0] = 1000;
+/// let mut lines = [0; 13];
+/// kifsang::lines_from(&recording, 0, kifsang::LINE_LIMIT - 13, &mut lines)?;
+/// assert_eq!(lines, [4_000_000; 13]);
+/// # Ok::<(), kifsang::Refusal>(())
+/// ```
+pub fn lines_from(
+    recording: &[i32],
+    start: usize,
+    first: usize,
+    lines: &mut [u64],
+) -> Result<(), Refusal> {
+    // SAFETY: each pointer comes with the length of its slice.
+    let refusal = unsafe {
+        raw::kifsang_lines_from(
+            recording.as_ptr(),
+            length(recording),
+            start as u64,
+            first as u64,
             lines.as_mut_ptr(),
             length(lines),
         )
@@ -296,6 +371,40 @@ pub fn add_row(record: &mut [u64], system: u32, values: &[u32]) -> Result<(), Re
             system,
             values.as_ptr(),
             length(values),
+        )
+    };
+    answered(refusal, ())
+}
+
+/// Observes windows that stand back to back, the first at `start`: leaves the record after so many of
+/// them, with the row of one kind of each. It is what [`fresh_record`] and then, for each window,
+/// [`spectrum`], [`row`] and [`add_row`] would leave; no window leaves a fresh record. Only the windows
+/// are looked at.
+///
+/// Refusals: 102 not 122 words; 1 system not 10 or 12; then for each window in turn: 2 fewer than 2,048
+/// samples from its start; 3 a sample of it outside -131071..131071; 9 45,000 windows are before it.
+///
+/// Proved error: each smoothed value is at most 12 units from the exact one, and a verdict that is
+/// asked of the record keeps what [`verdict`] says of it.
+pub fn observe(
+    recording: &[i32],
+    start: usize,
+    windows: usize,
+    system: u32,
+    kind: Kind,
+    record: &mut [u64],
+) -> Result<(), Refusal> {
+    // SAFETY: each pointer comes with the length of its slice.
+    let refusal = unsafe {
+        raw::kifsang_observe(
+            recording.as_ptr(),
+            length(recording),
+            start as u64,
+            windows as u64,
+            system,
+            kind as u32,
+            record.as_mut_ptr(),
+            length(record),
         )
     };
     answered(refusal, ())

@@ -6,7 +6,7 @@ use reference::random::Random;
 
 fn compare_read(tally: &mut Tally, text: &[u8]) {
     let core = kifsang::read_column(text);
-    let expected = reference::column::read_column(text);
+    let expected = reference::columns::read_column(text);
     let what = format!("reading {:?}", String::from_utf8_lossy(text));
     let (number, refusal) = numbers(&core, &expected);
     tally.same(&what, number, refusal);
@@ -17,7 +17,7 @@ fn compare_write(tally: &mut Tally, number: i64, room: usize) {
     let mut core = vec![b'#'; room];
     let mut other = core.clone();
     let answer = kifsang::write_column(&mut core, number);
-    let expected = reference::column::write_column(&mut other, number);
+    let expected = reference::columns::write_column(&mut other, number);
     let what = format!("writing {number} into {room} bytes");
     let (refusal, expected) = numbers(&answer, &expected);
     tally.same(&what, refusal, expected);
@@ -28,7 +28,7 @@ fn compare_listing(tally: &mut Tally, rows: &[[u32; ORDER_COUNT]; 3], room: usiz
     let mut core = vec![b'#'; room];
     let mut other = core.clone();
     let answer = kifsang::fill_listing(&rows[0], &rows[1], &rows[2], &mut core);
-    let expected = reference::listing::fill_listing(&mut other, &rows[0], &rows[1], &rows[2]);
+    let expected = reference::listing::fill_listing(&rows[0], &rows[1], &rows[2], &mut other);
     let (refusal, number) = numbers(&answer, &expected);
     tally.same("the listing's refusal", refusal, number);
     tally.same(

@@ -1,7 +1,7 @@
 //! The recordings of `examples/recordings`, judged by the core as the script beside them says.
 
 use crate::Tally;
-use kifsang::{Kind, Verdict, LINE_COUNT, ORDER_COUNT, RECORD_WORDS, WINDOW_LENGTH};
+use kifsang::{Kind, Verdict, ORDER_COUNT, RECORD_WORDS, WINDOW_LENGTH};
 
 /// 4,000 counts per ampere, 4,096 units in a count.
 const UNITS_PER_AMPERE: u32 = 4_000 * 4_096;
@@ -16,15 +16,17 @@ fn over_and_close(name: &str) -> (Vec<u32>, Vec<u32>) {
         .collect();
     let system = numbers[0] as u32;
     let samples: Vec<i32> = numbers[1..].iter().map(|&number| number as i32).collect();
-    let mut lines = [0; LINE_COUNT];
-    let mut row = [0; ORDER_COUNT];
+    let windows = samples.len() / WINDOW_LENGTH;
     let mut record = [0; RECORD_WORDS];
-    kifsang::fresh_record(system, &mut record).expect("a fresh record");
-    for start in (0..samples.len()).step_by(WINDOW_LENGTH) {
-        kifsang::spectrum(&samples, start, &mut lines).expect("a spectrum");
-        kifsang::row(Kind::HarmonicGroup, system, &lines, &mut row).expect("a row");
-        kifsang::add_row(&mut record, system, &row).expect("one window more");
-    }
+    kifsang::observe(
+        &samples,
+        0,
+        windows,
+        system,
+        Kind::HarmonicGroup,
+        &mut record,
+    )
+    .expect("a record");
     let judged = |verdict| {
         (2..=ORDER_COUNT as u32)
             .filter(|&order| kifsang::verdict(&record, order, UNITS_PER_AMPERE) == Ok(verdict))

@@ -1,6 +1,6 @@
 //! Compares the proved core, through its C interface, with the second program of `tests/reference`,
-//! call by call: spectra, all kinds, orders and systems, distortion, records, verdicts, columns and
-//! listings, on valid and on damaged arguments. Every buffer is compared after every call, refused
+//! call by call: spectra and parts of them, all kinds, orders and systems, distortion, records, windows
+//! back to back, verdicts, columns and listings, on valid and on damaged arguments. Every buffer is compared after every call, refused
 //! ones too; the numbers that the wrappers' names stand for are compared with figures first. With the
 //! path of the built `harmlist` as its argument it compares that program instead, byte for byte. The
 //! seed is fixed, so that a run can be repeated.
@@ -9,6 +9,7 @@ mod columns;
 mod examples;
 mod harmlist;
 mod names;
+mod observations;
 mod records;
 mod windows;
 
@@ -30,12 +31,12 @@ impl Tally {
 /// A refusal of the core and one of the second program, both as document 01's number, 0 for none.
 pub fn numbers<T, U>(
     core: &Result<T, kifsang::Refusal>,
-    reference: &Result<U, reference::refusal::Refusal>,
+    reference: &Result<U, reference::refusals::Refusal>,
 ) -> (u32, u32) {
     let of_core = core.as_ref().err().map_or(0, |refusal| refusal.0);
     (
         of_core,
-        u32::from(reference::refusal::number_or_zero(reference)),
+        u32::from(reference::refusals::number_or_zero(reference)),
     )
 }
 
@@ -49,6 +50,7 @@ fn main() {
             names::compare();
             windows::compare(&mut tally, SEED);
             records::compare(&mut tally, SEED);
+            observations::compare(&mut tally, SEED);
             columns::compare(&mut tally, SEED);
             examples::compare(&mut tally);
         }

@@ -38,6 +38,7 @@ pub fn compare() {
     let constants = constants! {
         WINDOW_LENGTH 2048
         LINE_COUNT 512
+        LINE_LIMIT 1024
         ORDER_COUNT 40
         UNITS_PER_COUNT 4096
         LARGEST_SAMPLE 131071

@@ -2,20 +2,21 @@
 
 use crate::{numbers, Tally};
 use kifsang::{ORDER_COUNT, RECORD_WORDS};
-use reference::observation::{add_row, fresh_record, Record, Row};
+use reference::observation::{add_row, fresh_record, Observation};
 use reference::random::Random;
-use reference::verdict::Verdict;
+use reference::rows::Row;
+use reference::verdict::{order_verdict, Question, Verdict};
 
 /// The words of a record, in the interface's order.
-fn words(record: &Record) -> Vec<u64> {
+pub fn words(record: &Observation) -> Vec<u64> {
     let mut words = vec![record.system, record.windows];
     words.extend(record.smoothed);
-    words.extend(record.sums);
-    words.extend(record.peaks);
+    words.extend(record.sum);
+    words.extend(record.peak);
     words
 }
 
-fn compare_add_row(tally: &mut Tally, record: &Record, row: &Row) -> Record {
+fn compare_add_row(tally: &mut Tally, record: &Observation, row: &Row) -> Observation {
     let mut core = words(record);
     let answer = kifsang::add_row(&mut core, row.system as u32, &row.values);
     let (next, refusal) = add_row(record.clone(), row);
@@ -29,12 +30,16 @@ fn compare_add_row(tally: &mut Tally, record: &Record, row: &Row) -> Record {
     next
 }
 
-fn compare_verdicts(tally: &mut Tally, record: &Record, scales: &[u32]) {
+fn compare_verdicts(tally: &mut Tally, record: &Observation, scales: &[u32]) {
     let words = words(record);
     for order in (0..=42).chain([u32::MAX]) {
         for &scale in scales {
             let core = kifsang::verdict(&words, order, scale);
-            let expected = reference::verdict::verdict(record, order.into(), scale.into());
+            let question = Question {
+                order: order.into(),
+                scale: scale.into(),
+            };
+            let expected = order_verdict(record, question);
             let (number, refusal) = numbers(&core, &expected);
             let what = format!("verdict of order {order} at {scale} units per ampere");
             tally.same(&what, number, refusal);
@@ -58,7 +63,7 @@ fn random_row(random: &mut Random, system: u64) -> Row {
 }
 
 /// A record with a random fault or none, to try soundness on.
-fn damaged(random: &mut Random, record: &Record) -> Record {
+fn damaged(random: &mut Random, record: &Observation) -> Observation {
     let mut record = record.clone();
     let place = random.below(ORDER_COUNT as u64) as usize;
     match random.below(9) {
@@ -67,8 +72,8 @@ fn damaged(random: &mut Random, record: &Record) -> Record {
         2 => record.windows = 45_001,
         3 => record.windows = 0,
         4 => record.smoothed[place] = 1 << 32,
-        5 => record.sums[place] = record.windows * u64::from(u32::MAX) + 1,
-        6 => record.peaks[place] = (1 << 32) + random.below(5),
+        5 => record.sum[place] = record.windows * u64::from(u32::MAX) + 1,
+        6 => record.peak[place] = (1 << 32) + random.below(5),
         7 => record.windows = 1 << 40,
         _ => record.system = (1 << 32) + 10,
     }

@@ -1,14 +1,14 @@
 //! Spectra, groups and distortion.
 
 use crate::{numbers, Tally};
-use kifsang::{LINE_COUNT, ORDER_COUNT, WINDOW_LENGTH};
+use kifsang::{LINE_COUNT, LINE_LIMIT, ORDER_COUNT, WINDOW_LENGTH};
 use reference::annex_c::{comparison, own_spectrum, Agreement};
-use reference::group::Kind;
+use reference::groups::Kind;
 use reference::random::Random;
 use reference::signals;
 use std::cell::RefCell;
 
-const KINDS: [kifsang::Kind; 5] = [
+pub const KINDS: [kifsang::Kind; 5] = [
     kifsang::Kind::Component,
     kifsang::Kind::HarmonicGroup,
     kifsang::Kind::HarmonicSubgroup,
@@ -31,6 +31,80 @@ fn compare_spectrum(tally: &mut Tally, name: &str, recording: &[i32], start: usi
     tally.same(&format!("lines of {name} from {start}"), core, other);
 }
 
+/// One call for a part of the lines on both sides, with all that the buffers hold after it.
+fn compare_lines_from(
+    tally: &mut Tally,
+    name: &str,
+    recording: &[i32],
+    start: usize,
+    (first, room): (usize, usize),
+) {
+    let mut core = vec![0xABCD; room];
+    let mut other = core.clone();
+    let answer = kifsang::lines_from(recording, start, first, &mut core);
+    let expected = reference::spectrum::lines_from(recording, start, first, &mut other);
+    let (number, expected) = numbers(&answer, &expected);
+    let what = format!("{room} lines of {name} from {start}, the first {first}");
+    tally.same(&what, number, expected);
+    tally.same(&what, core, other);
+}
+
+/// All lines of a window, and parts of them at every place.
+fn compare_line_parts(tally: &mut Tally, name: &str, window: &[i32]) {
+    let part = |first, count| {
+        let mut lines = vec![0xABCD; count];
+        kifsang::lines_from(window, 0, first, &mut lines).map(|()| lines)
+    };
+    compare_lines_from(tally, name, window, 0, (0, LINE_LIMIT));
+    let all = part(0, LINE_LIMIT).expect("all lines");
+    for first in 0..=LINE_LIMIT {
+        for count in [0, 1, 13, LINE_COUNT] {
+            let expected = all.get(first..first + count).map(<[u64]>::to_vec);
+            if count < LINE_COUNT || first % 64 == 0 {
+                let what = format!("{count} of all lines of {name} from line {first}");
+                tally.same(&what, part(first, count).ok(), expected);
+            }
+        }
+    }
+    let mut spectrum = vec![0; LINE_COUNT];
+    kifsang::spectrum(window, 0, &mut spectrum).expect("a window in range");
+    tally.same("the spectrum", &spectrum[..], &all[..LINE_COUNT]);
+}
+
+/// Parts that are refused: each fault alone and each two of them, and the edges beside them.
+fn compare_line_refusals(tally: &mut Tally, seed: u64) {
+    let mut recording = signals::noise(2 * WINDOW_LENGTH + 77, 131_071, seed).samples;
+    recording[WINDOW_LENGTH + 77] = -131_072;
+    let length = recording.len();
+    for start in [
+        0,
+        77,
+        78,
+        WINDOW_LENGTH + 77,
+        WINDOW_LENGTH + 78,
+        length,
+        usize::MAX,
+    ] {
+        for first in [
+            0,
+            1,
+            511,
+            1011,
+            1012,
+            1023,
+            1024,
+            1025,
+            usize::MAX - 12,
+            usize::MAX,
+        ] {
+            for room in [0, 1, 2, 13, 512, 1023, 1024, 1025] {
+                let name = "a damaged recording";
+                compare_lines_from(tally, name, &recording, start, (first, room));
+            }
+        }
+    }
+}
+
 /// All kinds and orders of both systems for some lines, rows and distortion with them.
 fn compare_groups(tally: &mut Tally, name: &str, lines: &[u64]) {
     for (kind, other) in KINDS.into_iter().zip(Kind::ALL) {
@@ -40,7 +114,7 @@ fn compare_groups(tally: &mut Tally, name: &str, lines: &[u64]) {
             for order in 1..=ORDER_COUNT as u32 {
                 let core = kifsang::group_value(kind, system, order, lines);
                 let expected =
-                    reference::group::group_value(other, system.into(), order.into(), lines);
+                    reference::groups::group_value(other, system.into(), order.into(), lines);
                 let what = format!("{kind:?} of {name}, system {system}, order {order}");
                 tally.same(
                     &what,
@@ -80,7 +154,7 @@ fn compare_group_refusals(tally: &mut Tally) {
                 for (kind, other) in KINDS.into_iter().zip(Kind::ALL) {
                     let core = kifsang::group_value(kind, system, order, lines);
                     let expected =
-                        reference::group::group_value(other, system.into(), order.into(), lines);
+                        reference::groups::group_value(other, system.into(), order.into(), lines);
                     let (number, refusal) = numbers(&core, &expected);
                     let what = format!("{kind:?}, system {system}, order {order}");
                     tally.same(&what, number, refusal);
@@ -160,6 +234,21 @@ pub fn compare(tally: &mut Tally, seed: u64) {
         2000,
         LINE_COUNT,
     );
+
+    for size in [1, 1000, 131_071] {
+        let window = signals::noise(WINDOW_LENGTH, size, random.bits());
+        compare_line_parts(tally, &window.name, &window.samples);
+    }
+    for signal in &windows {
+        compare_lines_from(
+            tally,
+            &signal.name,
+            &signal.samples,
+            0,
+            (LINE_COUNT, LINE_COUNT),
+        );
+    }
+    compare_line_refusals(tally, random.bits());
 
     compare_group_refusals(tally);
     for _ in 0..2000 {

@@ -2,15 +2,15 @@
 //! each twice the sum unrounded, and no root taken, so that G is a fraction.
 //! Here too is the check of demand 3 on one group value.
 
-use crate::group::{Kind, weighted_lines};
+use crate::groups::{Kind, weighted_lines};
+use crate::largest::largest;
 use crate::natural::Natural;
-use crate::search::largest_where;
 use crate::sine::exact_sines;
-use crate::spectrum::LINES;
-use crate::turn::{Place, QUARTER, cosine_place, sine_place};
+use crate::spectrum::LINE_COUNT;
+use crate::turn::{Place, QUARTER_TURN, cosine_place, sine_place};
 
 /// How far a group value may lie from the exact one, in units.
-pub const GROUP_BAND: u64 = 7;
+pub const GROUP_MARGIN: u64 = 7;
 
 /// The exact squares A² + B² of the 512 lines of a window in range.
 pub struct ExactLines {
@@ -28,7 +28,7 @@ pub struct ExactGroup {
 /// as a numerator over the square of the sines' denominator. The samples that
 /// meet one entry of the quarter wave are summed first.
 fn squared_sum(window: &[i32], place_at: impl Fn(usize) -> Place) -> Natural {
-    let mut factors = [0; QUARTER + 1];
+    let mut factors = [0; QUARTER_TURN + 1];
     for (j, &sample) in window.iter().enumerate() {
         let place = place_at(j);
         let signed = if place.negated { -i64::from(sample) } else { sample.into() };
@@ -53,7 +53,7 @@ pub fn exact_lines(window: &[i32]) -> ExactLines {
         &a_squared + &b_squared
     };
     ExactLines {
-        numerators: (0..LINES).map(line).collect(),
+        numerators: (0..LINE_COUNT).map(line).collect(),
         denominator: exact_sines().denominator.power(2),
     }
 }
@@ -79,15 +79,15 @@ impl ExactGroup {
     /// Demand 3 for one group value R: R less 7 (not below 0), squared, is at
     /// most G, and G is at most R plus 7, squared.
     pub fn is_near(&self, value: u64) -> bool {
-        let low = value.saturating_sub(GROUP_BAND);
+        let low = value.saturating_sub(GROUP_MARGIN);
         self.square_at_denominator(low) <= self.numerator
-            && self.numerator <= self.square_at_denominator(value + GROUP_BAND)
+            && self.numerator <= self.square_at_denominator(value + GROUP_MARGIN)
     }
 
     /// The whole part of 1000 times the root of G: thousandths of a unit.
     pub fn root_in_thousandths(&self) -> u64 {
         let mut scaled = Natural::default();
         scaled.add_product(&self.numerator, 1_000_000);
-        largest_where(43, |root| self.square_at_denominator(root) <= scaled)
+        largest(43, |root| self.square_at_denominator(root) <= scaled)
     }
 }

@@ -4,7 +4,7 @@
 
 use crate::random::Random;
 use crate::signals::{Signal, appliances, constant, plain_windows, seeded_windows};
-use crate::spectrum::WINDOW;
+use crate::spectrum::WINDOW_LENGTH;
 
 /// A named input.
 pub struct Input {
@@ -39,7 +39,7 @@ fn file_name(system: u64, signal: &Signal) -> String {
 fn recordings(seed: u64) -> Vec<Input> {
     let mut inputs = Vec::new();
     for system in [10, 12] {
-        let long = appliances(6 * WINDOW, system, seed);
+        let long = appliances(6 * WINDOW_LENGTH, system, seed);
         let short = plain_windows().into_iter().chain(seeded_windows(seed));
         for signal in short.chain(long) {
             let bytes = input_bytes(system as i64, &signal.samples);
@@ -53,30 +53,30 @@ fn recordings(seed: u64) -> Vec<Input> {
 fn refused_numbers() -> Vec<Input> {
     let zeros = |length| constant(length, 0).samples;
     let with = |place: usize, sample: i32| {
-        let mut samples = zeros(2 * WINDOW);
+        let mut samples = zeros(2 * WINDOW_LENGTH);
         samples[place] = sample;
         input_bytes(10, &samples)
     };
     let mut inputs = vec![
         input("no_sample", input_bytes(10, &[])),
         input("one_sample", input_bytes(12, &[1])),
-        input("one_sample_short", input_bytes(10, &zeros(WINDOW - 1))),
-        input("second_window_short", input_bytes(10, &zeros(WINDOW + 1))),
+        input("one_sample_short", input_bytes(10, &zeros(WINDOW_LENGTH - 1))),
+        input("second_window_short", input_bytes(10, &zeros(WINDOW_LENGTH + 1))),
         input("sample_above_range_first", with(0, 131_072)),
-        input("sample_above_range_last", with(2 * WINDOW - 1, 131_072)),
-        input("sample_below_range", with(WINDOW, -131_072)),
-        input("samples_at_range_ends", with(WINDOW, -131_071)),
+        input("sample_above_range_last", with(2 * WINDOW_LENGTH - 1, 131_072)),
+        input("sample_below_range", with(WINDOW_LENGTH, -131_072)),
+        input("samples_at_range_ends", with(WINDOW_LENGTH, -131_071)),
     ];
     for system in [0, 1, 9, 11, 13, -10, 99_999_999] {
         let name = format!("system_{system}");
-        inputs.push(input(&name, input_bytes(system, &zeros(WINDOW))));
+        inputs.push(input(&name, input_bytes(system, &zeros(WINDOW_LENGTH))));
     }
     inputs
 }
 
 /// Inputs with a line that is not a column and a newline.
 fn refused_lines() -> Vec<Input> {
-    let good = input_bytes(10, &constant(WINDOW, 500).samples);
+    let good = input_bytes(10, &constant(WINDOW_LENGTH, 500).samples);
     let joined = |parts: &[&[u8]]| parts.concat();
     vec![
         input("empty", Vec::new()),
@@ -109,7 +109,7 @@ fn with_returns(bytes: &[u8]) -> Vec<u8> {
 
 /// A good input with a few bytes changed, dropped or doubled.
 fn damaged(random: &mut Random) -> Vec<u8> {
-    let mut bytes = input_bytes(12, &constant(WINDOW, -7).samples);
+    let mut bytes = input_bytes(12, &constant(WINDOW_LENGTH, -7).samples);
     for _ in 0..1 + random.below(3) {
         let place = random.below(bytes.len() as u64) as usize;
         match random.below(4) {

@@ -4,19 +4,21 @@
 //! compared on many inputs. Speed and memory come after plainness here.
 
 pub mod annex_c;
-pub mod column;
+pub mod columns;
 pub mod distortion;
 pub mod exact_group;
-pub mod group;
+pub mod groups;
 pub mod harmlist;
 pub mod inputs;
+pub mod largest;
 pub mod listing;
 pub mod natural;
 pub mod observation;
+pub mod observe;
 pub mod random;
-pub mod refusal;
+pub mod refusals;
 pub mod rounding;
-pub mod search;
+pub mod rows;
 pub mod signals;
 pub mod sine;
 pub mod spectrum;

@@ -1,12 +1,13 @@
 //! The command-line program; see the README.
 
 use reference::annex_c::print_comparison;
-use reference::exact_group::{GROUP_BAND, exact_lines};
-use reference::group::{Kind, ORDERS, group_value};
+use reference::exact_group::{GROUP_MARGIN, exact_lines};
+use reference::groups::{Kind, group_value};
 use reference::harmlist::harmlist;
 use reference::inputs::{all_inputs, input_bytes, sample_bytes};
+use reference::rows::ORDER_COUNT;
 use reference::signals::{appliances, plain_windows, seeded_windows};
-use reference::spectrum::{WINDOW, lines_of};
+use reference::spectrum::{WINDOW_LENGTH, lines_of};
 use reference::table::quarter_wave;
 use reference::vectors::print_vectors;
 use std::error::Error;
@@ -65,11 +66,11 @@ fn write_inputs(seed: u64, directory: &Path) -> Outcome {
 /// An input of so many windows: each appliance for eight windows, in turn.
 fn print_recording(system: u64, windows: usize, seed: u64, mut output: impl Write) -> Outcome {
     let stay = 8;
-    let sources = appliances(stay * WINDOW, system, seed);
+    let sources = appliances(stay * WINDOW_LENGTH, system, seed);
     output.write_all(&input_bytes(system as i64, &[]))?;
     for window in 0..windows {
         let source = &sources[window / stay % sources.len()].samples;
-        let samples = &source[window % stay * WINDOW..][..WINDOW];
+        let samples = &source[window % stay * WINDOW_LENGTH..][..WINDOW_LENGTH];
         output.write_all(&sample_bytes(samples))?;
     }
     Ok(())
@@ -83,7 +84,7 @@ fn greatest_distance(window: &[i32]) -> u64 {
     let mut greatest = 0;
     for kind in Kind::ALL {
         for system in [10, 12] {
-            for order in 1..=ORDERS as u64 {
+            for order in 1..=ORDER_COUNT as u64 {
                 let value = group_value(kind, system, order, &lines).expect("lines are in range");
                 let exact_root = exact.group(kind, system, order).root_in_thousandths();
                 greatest = greatest.max(exact_root.abs_diff(1_000 * value));
@@ -94,7 +95,7 @@ fn greatest_distance(window: &[i32]) -> u64 {
 }
 
 fn print_distances(seed: u64, mut output: impl Write) -> Outcome {
-    writeln!(output, "units of at most {GROUP_BAND}, and the signal")?;
+    writeln!(output, "units of at most {GROUP_MARGIN}, and the signal")?;
     for signal in plain_windows().into_iter().chain(seeded_windows(seed)) {
         let distance = greatest_distance(&signal.samples) as f64 / 1_000.0;
         writeln!(output, "{distance:.3}  {}", signal.name)?;

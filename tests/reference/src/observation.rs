@@ -2,97 +2,86 @@
 //! fields are wider than any sound record needs, so that records that are not
 //! sound can be tried too.
 
-use crate::group::{ORDERS, is_system};
-use crate::refusal::Refusal;
-use crate::rounding::nearest_halves_up;
+use crate::refusals::Refusal;
+use crate::rounding::nearest;
+use crate::rows::{LARGEST_VALUE, ORDER_COUNT, Row, is_system};
 
-/// The greatest count of windows, 2.5 hours of them.
-pub const GREATEST_WINDOWS: u64 = 45_000;
-/// The greatest smoothed value and peak.
-pub const GREATEST_VALUE: u64 = u32::MAX as u64;
-
-/// A row of group values at the orders 1..40, with their system.
-#[derive(Clone, Debug, PartialEq, Eq)]
-pub struct Row {
-    /// The cycles in a window.
-    pub system: u64,
-    /// The values at the orders 1..40.
-    pub values: [u32; ORDERS],
-}
+/// The most windows of a record, 2.5 hours of them.
+pub const MOST_WINDOWS: u64 = 45_000;
 
 /// The observation record; index 0 of each array is order 1.
 #[derive(Clone, Debug, PartialEq, Eq)]
-pub struct Record {
+pub struct Observation {
     /// The cycles in a window.
     pub system: u64,
     /// The count n of windows.
     pub windows: u64,
     /// The smoothed values.
-    pub smoothed: [u64; ORDERS],
+    pub smoothed: [u64; ORDER_COUNT],
     /// The sums of smoothed values.
-    pub sums: [u64; ORDERS],
+    pub sum: [u64; ORDER_COUNT],
     /// The peaks of smoothed values.
-    pub peaks: [u64; ORDERS],
+    pub peak: [u64; ORDER_COUNT],
 }
 
-fn zero_record(system: u64) -> Record {
-    let zeros = [0; ORDERS];
-    Record { system, windows: 0, smoothed: zeros, sums: zeros, peaks: zeros }
+fn empty_record(system: u64) -> Observation {
+    let zeros = [0; ORDER_COUNT];
+    Observation { system, windows: 0, smoothed: zeros, sum: zeros, peak: zeros }
 }
 
 /// A fresh record of the system. Refused, with a record of system 10: 1.
-pub fn fresh_record(system: u64) -> (Record, Option<Refusal>) {
+pub fn fresh_record(system: u64) -> (Observation, Option<Refusal>) {
     if is_system(system) {
-        (zero_record(system), None)
+        (empty_record(system), None)
     } else {
-        (zero_record(10), Some(Refusal::System))
+        (empty_record(10), Some(Refusal::UnknownSystem))
     }
 }
 
 /// Whether a record is sound.
-pub fn is_sound(record: &Record) -> bool {
-    let no_sum_above = record.windows.saturating_mul(GREATEST_VALUE);
-    is_system(record.system)
-        && record.windows <= GREATEST_WINDOWS
-        && record.sums.iter().all(|&sum| sum <= no_sum_above)
-        && record.peaks.iter().all(|&peak| peak <= GREATEST_VALUE)
-        && record.smoothed.iter().all(|&smoothed| smoothed <= GREATEST_VALUE)
-        && (record.windows > 0 || *record == zero_record(record.system))
+pub fn is_sound(observation: &Observation) -> bool {
+    let no_sum_above = observation.windows.saturating_mul(LARGEST_VALUE);
+    is_system(observation.system)
+        && observation.windows <= MOST_WINDOWS
+        && observation.sum.iter().all(|&sum| sum <= no_sum_above)
+        && observation.peak.iter().all(|&peak| peak <= LARGEST_VALUE)
+        && observation.smoothed.iter().all(|&smoothed| smoothed <= LARGEST_VALUE)
+        && (observation.windows > 0 || *observation == empty_record(observation.system))
 }
 
 /// (1000 × new + 7012 × old) / 8012 to the nearest, halves up; both below 2^32.
-pub fn smooth(new: u64, old: u64) -> u64 {
-    nearest_halves_up((1_000 * new + 7_012 * old) as i64, 8_012) as u64
+pub fn smoothed_value(new: u64, old: u64) -> u64 {
+    nearest((1_000 * new + 7_012 * old) as i64, 8_012) as u64
 }
 
 /// Why a row is not taken, in this order: 7, 1, 8, 9.
-fn row_refusal(record: &Record, row: &Row) -> Option<Refusal> {
-    if !is_sound(record) {
+fn add_row_refusal(observation: &Observation, row: &Row) -> Option<Refusal> {
+    if !is_sound(observation) {
         Some(Refusal::UnsoundRecord)
     } else if !is_system(row.system) {
-        Some(Refusal::System)
-    } else if row.system != record.system {
+        Some(Refusal::UnknownSystem)
+    } else if row.system != observation.system {
         Some(Refusal::OtherSystem)
-    } else if record.windows == GREATEST_WINDOWS {
-        Some(Refusal::FullRecord)
+    } else if observation.windows == MOST_WINDOWS {
+        Some(Refusal::RecordFull)
     } else {
         None
     }
 }
 
 /// The record after a row; a refused row leaves it unchanged.
-pub fn add_row(record: Record, row: &Row) -> (Record, Option<Refusal>) {
-    if let Some(refusal) = row_refusal(&record, row) {
-        return (record, Some(refusal));
+pub fn add_row(observation: Observation, row: &Row) -> (Observation, Option<Refusal>) {
+    if let Some(refusal) = add_row_refusal(&observation, row) {
+        return (observation, Some(refusal));
     }
-    let mut next = record;
+    let mut next = observation;
     for (place, &value) in row.values.iter().enumerate() {
         let new = u64::from(value);
         let first = next.windows == 0;
-        let smoothed = if first { new } else { smooth(new, next.smoothed[place]) };
+        let smoothed = if first { new } else { smoothed_value(new, next.smoothed[place]) };
         next.smoothed[place] = smoothed;
-        next.sums[place] += smoothed;
-        next.peaks[place] = next.peaks[place].max(smoothed);
+        next.sum[place] += smoothed;
+        next.peak[place] = next.peak[place].max(smoothed);
     }
     next.windows += 1;
     (next, None)

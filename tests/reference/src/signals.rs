@@ -4,7 +4,7 @@
 //! window of 2,048 samples, and takes a peak current in sample counts.
 
 use crate::random::Random;
-use crate::spectrum::{GREATEST_SAMPLE, WINDOW};
+use crate::spectrum::{LARGEST_SAMPLE, WINDOW_LENGTH};
 use crate::table::quarter_wave;
 use std::f64::consts::TAU;
 
@@ -22,7 +22,7 @@ fn signal(name: String, samples: Vec<i32>) -> Signal {
 
 /// The nearest sample in range.
 pub fn to_sample(value: f64) -> i32 {
-    let greatest = f64::from(GREATEST_SAMPLE);
+    let greatest = f64::from(LARGEST_SAMPLE);
     value.round().clamp(-greatest, greatest) as i32
 }
 
@@ -46,7 +46,7 @@ pub fn alternating(length: usize, value: i32) -> Signal {
 
 /// The angle at sample j of a tone with so many periods in a window.
 fn angle(j: usize, periods: f64) -> f64 {
-    TAU * periods * (j as f64) / WINDOW as f64
+    TAU * periods * (j as f64) / WINDOW_LENGTH as f64
 }
 
 /// A sine with so many periods in a window, ahead by `phase` of a turn.
@@ -58,7 +58,7 @@ pub fn tone(length: usize, periods: f64, peak: f64, phase: f64) -> Signal {
 /// The sign of a cosine at the range's ends: no signal has a greater line here.
 pub fn square_wave(length: usize, periods: f64) -> Signal {
     let is_high = |j| angle(j, periods).cos() >= 0.0;
-    let sample = |j| if is_high(j) { GREATEST_SAMPLE } else { -GREATEST_SAMPLE };
+    let sample = |j| if is_high(j) { LARGEST_SAMPLE } else { -LARGEST_SAMPLE };
     signal(format!("square_wave {periods}"), (0..length).map(sample).collect())
 }
 
@@ -72,7 +72,7 @@ pub fn noise(length: usize, size: i32, seed: u64) -> Signal {
 /// Samples at the two ends of the range, each with an even chance.
 pub fn noise_of_ends(length: usize, seed: u64) -> Signal {
     let mut random = Random::new(seed);
-    let ends = [GREATEST_SAMPLE, -GREATEST_SAMPLE];
+    let ends = [LARGEST_SAMPLE, -LARGEST_SAMPLE];
     let samples = (0..length).map(|_| ends[random.below(2) as usize]).collect();
     signal(format!("noise_of_ends {seed}"), samples)
 }
@@ -93,7 +93,7 @@ pub fn lamp_with_rectifier(length: usize, system: u64, peak: f64) -> Signal {
 /// begins only after the share `cut` of it.
 pub fn phase_cut_dimmer(length: usize, system: u64, peak: f64, cut: f64) -> Signal {
     let sample = |j: usize| {
-        let half_cycles = 2.0 * system as f64 * j as f64 / WINDOW as f64;
+        let half_cycles = 2.0 * system as f64 * j as f64 / WINDOW_LENGTH as f64;
         let conducts = half_cycles.fract() >= cut;
         to_sample(if conducts { peak * angle(j, system as f64).sin() } else { 0.0 })
     };
@@ -119,7 +119,7 @@ pub fn motor_drive(length: usize, system: u64, peak: f64, torque_periods: f64) -
 /// mains cycles and off for others, switched at zero crossings.
 pub fn microwave_oven(length: usize, system: u64, peak: f64, on: u64, off: u64) -> Signal {
     let sample = |j| {
-        let cycle = (j as u64 * system) / WINDOW as u64;
+        let cycle = (j as u64 * system) / WINDOW_LENGTH as u64;
         let mains = angle(j, system as f64);
         let current = mains.sin() - 0.35 * (3.0 * mains).sin()
             + 0.12 * (5.0 * mains).sin()
@@ -156,9 +156,9 @@ fn halfway_factors() -> (i32, i32) {
 pub fn halfway_window(sign: i32, of_sine: bool) -> Signal {
     let first_class = if of_sine { 5 } else { 1 };
     let (a, b) = halfway_factors();
-    let mut samples = vec![0; WINDOW];
+    let mut samples = vec![0; WINDOW_LENGTH];
     for (class, total) in [(first_class, a), (first_class + 1, b)] {
-        let places: Vec<usize> = (class..WINDOW).step_by(16).collect();
+        let places: Vec<usize> = (class..WINDOW_LENGTH).step_by(16).collect();
         let count = places.len() as i32;
         for (&place, number) in places.iter().zip(0..) {
             samples[place] = sign * (total / count + i32::from(number < total % count));
@@ -195,29 +195,29 @@ pub fn appliances(length: usize, system: u64, seed: u64) -> Vec<Signal> {
 /// One window each of the signals that sit at an edge or hold a single line.
 pub fn plain_windows() -> Vec<Signal> {
     let mut signals = vec![
-        constant(WINDOW, 0),
-        constant(WINDOW, 500),
-        constant(WINDOW, GREATEST_SAMPLE),
-        constant(WINDOW, -GREATEST_SAMPLE),
-        alternating(WINDOW, GREATEST_SAMPLE),
-        alternating(WINDOW, -1),
-        pulse(WINDOW, 0, 1_000),
-        pulse(WINDOW, 0, -1_000),
-        pulse(WINDOW, 1_024, 1),
-        pulse(WINDOW, 2_047, GREATEST_SAMPLE),
-        pulse(WINDOW, 777, -GREATEST_SAMPLE),
+        constant(WINDOW_LENGTH, 0),
+        constant(WINDOW_LENGTH, 500),
+        constant(WINDOW_LENGTH, LARGEST_SAMPLE),
+        constant(WINDOW_LENGTH, -LARGEST_SAMPLE),
+        alternating(WINDOW_LENGTH, LARGEST_SAMPLE),
+        alternating(WINDOW_LENGTH, -1),
+        pulse(WINDOW_LENGTH, 0, 1_000),
+        pulse(WINDOW_LENGTH, 0, -1_000),
+        pulse(WINDOW_LENGTH, 1_024, 1),
+        pulse(WINDOW_LENGTH, 2_047, LARGEST_SAMPLE),
+        pulse(WINDOW_LENGTH, 777, -LARGEST_SAMPLE),
     ];
     for sign in [1, -1] {
         signals.push(halfway_window(sign, false));
         signals.push(halfway_window(sign, true));
     }
     for line in [1.0, 2.0, 10.0, 12.0, 30.0, 50.0, 255.0, 400.0, 480.0, 511.0] {
-        signals.push(tone(WINDOW, line, 131_071.0, 0.0));
-        signals.push(tone(WINDOW, line, 131_071.0, 0.25));
-        signals.push(square_wave(WINDOW, line));
+        signals.push(tone(WINDOW_LENGTH, line, 131_071.0, 0.0));
+        signals.push(tone(WINDOW_LENGTH, line, 131_071.0, 0.25));
+        signals.push(square_wave(WINDOW_LENGTH, line));
     }
     for periods in [35.6, 57.4, 104.5] {
-        signals.push(tone(WINDOW, periods, 100_000.0, 0.125));
+        signals.push(tone(WINDOW_LENGTH, periods, 100_000.0, 0.125));
     }
     signals
 }
@@ -226,16 +226,16 @@ pub fn plain_windows() -> Vec<Signal> {
 pub fn seeded_windows(seed: u64) -> Vec<Signal> {
     let mut random = Random::new(seed);
     let mut signals = Vec::new();
-    for size in [1, 3, 40, 1_000, 30_000, GREATEST_SAMPLE] {
-        signals.push(noise(WINDOW, size, random.bits()));
+    for size in [1, 3, 40, 1_000, 30_000, LARGEST_SAMPLE] {
+        signals.push(noise(WINDOW_LENGTH, size, random.bits()));
     }
-    signals.push(noise_of_ends(WINDOW, random.bits()));
+    signals.push(noise_of_ends(WINDOW_LENGTH, random.bits()));
     for _ in 0..4 {
         let periods = random.below(511_000) as f64 / 1_000.0;
         let peak = 1.0 + random.below(131_000) as f64;
-        signals.push(tone(WINDOW, periods, peak, random.below(1_000) as f64 / 1_000.0));
-        let position = random.below(WINDOW as u64) as usize;
-        signals.push(pulse(WINDOW, position, random.within(GREATEST_SAMPLE)));
+        signals.push(tone(WINDOW_LENGTH, periods, peak, random.below(1_000) as f64 / 1_000.0));
+        let position = random.below(WINDOW_LENGTH as u64) as usize;
+        signals.push(pulse(WINDOW_LENGTH, position, random.within(LARGEST_SAMPLE)));
     }
     signals
 }

@@ -4,7 +4,7 @@
 //! fractions are brought to one denominator, (1024 × 10^18)^21 × 21!.
 
 use crate::natural::Natural;
-use crate::turn::QUARTER;
+use crate::turn::QUARTER_TURN;
 use std::sync::OnceLock;
 
 /// p × 10^18.
@@ -46,7 +46,7 @@ fn numerator(m: u128) -> Natural {
 pub fn exact_sines() -> &'static ExactSines {
     static SINES: OnceLock<ExactSines> = OnceLock::new();
     SINES.get_or_init(|| ExactSines {
-        numerators: (0..=QUARTER as u128).map(numerator).collect(),
+        numerators: (0..=QUARTER_TURN as u128).map(numerator).collect(),
         denominator: &Natural::from(ANGLE_DENOMINATOR).power(LAST_POWER)
             * &factorial_quotient(LAST_POWER, 0),
     })
@@ -55,13 +55,13 @@ pub fn exact_sines() -> &'static ExactSines {
 #[cfg(test)]
 mod tests {
     use super::*;
-    use crate::search::largest_where;
+    use crate::largest::largest;
 
     /// The whole part of 10^18 times the sine at m.
     fn eighteen_places(m: usize) -> u64 {
         let sines = exact_sines();
         let scaled = &sines.numerators[m] * &Natural::from(1_000_000_000_000_000_000);
-        largest_where(61, |t| &sines.denominator * &Natural::from(u128::from(t)) <= scaled)
+        largest(61, |t| &sines.denominator * &Natural::from(u128::from(t)) <= scaled)
     }
 
     #[test]

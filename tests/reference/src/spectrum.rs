@@ -1,61 +1,90 @@
 //! From samples to spectrum (document 01, section of that name).
 
-use crate::refusal::Refusal;
-use crate::rounding::nearest_halves_up;
-use crate::table::full_wave;
-use crate::turn::{QUARTER, TURN};
+use crate::refusals::Refusal;
+use crate::rounding::nearest;
+use crate::table::wave;
+use crate::turn::{QUARTER_TURN, TURN};
 
 /// Samples in a window.
-pub const WINDOW: usize = TURN;
+pub const WINDOW_LENGTH: usize = TURN;
 /// Lines in a spectrum.
-pub const LINES: usize = 512;
-/// The greatest size of a sample.
-pub const GREATEST_SAMPLE: i32 = 131_071;
-/// The greatest line.
-pub const GREATEST_LINE: u64 = 1 << 59;
+pub const LINE_COUNT: usize = 512;
+/// Line numbers are below this: half of the samples in a window.
+pub const LINE_LIMIT: usize = 1_024;
+/// The largest size of a sample.
+pub const LARGEST_SAMPLE: i32 = 131_071;
+/// The largest line.
+pub const LARGEST_LINE: u64 = 1 << 59;
 /// What the two sums of a line are divided by.
 const SUM_DIVISOR: i64 = 1 << 29;
 
-/// Whether a sample lies in −131,071..131,071.
-pub fn sample_in_range(sample: i32) -> bool {
-    (-GREATEST_SAMPLE..=GREATEST_SAMPLE).contains(&sample)
+/// Whether a sample lies outside −131,071..131,071.
+pub fn out_of_range(sample: i32) -> bool {
+    !(-LARGEST_SAMPLE..=LARGEST_SAMPLE).contains(&sample)
 }
 
 /// Line k of a window in range. Each sum stays below 2^11 × 2^17 × 2^30 = 2^58.
-fn line(window: &[i32], k: usize) -> u64 {
-    let wave = full_wave();
+fn line_of(window: &[i32], k: usize) -> u64 {
+    let wave = wave();
     let mut cosine_sum = 0;
     let mut sine_sum = 0;
     for (j, &sample) in window.iter().enumerate() {
         let index = j * k % TURN;
-        cosine_sum += i64::from(sample) * i64::from(wave[(index + QUARTER) % TURN]);
+        cosine_sum += i64::from(sample) * i64::from(wave[(index + QUARTER_TURN) % TURN]);
         sine_sum += i64::from(sample) * i64::from(wave[index]);
     }
-    let a = nearest_halves_up(cosine_sum, SUM_DIVISOR).unsigned_abs();
-    let b = nearest_halves_up(sine_sum, SUM_DIVISOR).unsigned_abs();
+    let a = nearest(cosine_sum, SUM_DIVISOR).unsigned_abs();
+    let b = nearest(sine_sum, SUM_DIVISOR).unsigned_abs();
     a * a + b * b
+}
+
+/// The window that begins at `start`. Refused: 2.
+pub fn window_at(recording: &[i32], start: usize) -> Result<&[i32], Refusal> {
+    let after_start = recording.get(start..).unwrap_or(&[]);
+    after_start.get(..WINDOW_LENGTH).ok_or(Refusal::ShortWindow)
+}
+
+/// Writes the lines `first`, `first` + 1, .. of a window. Refused: 3.
+fn write_lines(window: &[i32], first: usize, lines: &mut [u64]) -> Result<(), Refusal> {
+    if window.iter().any(|&sample| out_of_range(sample)) {
+        return Err(Refusal::SampleOutOfRange);
+    }
+    for (place, k) in lines.iter_mut().zip(first..) {
+        *place = line_of(window, k);
+    }
+    Ok(())
 }
 
 /// Writes the 512 lines of the window that begins at `start` to `lines`. A
 /// refusal leaves `lines` as it was. Refused in this order: 2, 4, 3.
 pub fn spectrum(recording: &[i32], start: usize, lines: &mut [u64]) -> Result<(), Refusal> {
-    let after_start = recording.get(start..).unwrap_or(&[]);
-    let window = after_start.get(..WINDOW).ok_or(Refusal::ShortWindow)?;
-    if lines.len() != LINES {
-        return Err(Refusal::LineCount);
+    let window = window_at(recording, start)?;
+    if lines.len() != LINE_COUNT {
+        return Err(Refusal::WrongLineCount);
     }
-    if !window.iter().all(|&sample| sample_in_range(sample)) {
-        return Err(Refusal::SampleRange);
+    write_lines(window, 0, lines)
+}
+
+/// Writes the lines `first`, `first` + 1, .. of the window that begins at
+/// `start`, as many as `lines` holds; none is taken too. A refusal leaves
+/// `lines` as it was. Refused in this order: 2; 4 for a buffer that reaches past
+/// line 1,023; 3.
+pub fn lines_from(
+    recording: &[i32],
+    start: usize,
+    first: usize,
+    lines: &mut [u64],
+) -> Result<(), Refusal> {
+    let window = window_at(recording, start)?;
+    if first > LINE_LIMIT || lines.len() > LINE_LIMIT - first {
+        return Err(Refusal::WrongLineCount);
     }
-    for (k, place) in lines.iter_mut().enumerate() {
-        *place = line(window, k);
-    }
-    Ok(())
+    write_lines(window, first, lines)
 }
 
 /// The 512 lines of the window that begins at `start`, in an array of their own.
-pub fn lines_of(recording: &[i32], start: usize) -> Result<[u64; LINES], Refusal> {
-    let mut lines = [0; LINES];
+pub fn lines_of(recording: &[i32], start: usize) -> Result<[u64; LINE_COUNT], Refusal> {
+    let mut lines = [0; LINE_COUNT];
     spectrum(recording, start, &mut lines)?;
     Ok(lines)
 }

@@ -5,7 +5,7 @@
 /// Steps in a full turn, and samples in a window.
 pub const TURN: usize = 2_048;
 /// Steps in a quarter turn.
-pub const QUARTER: usize = TURN / 4;
+pub const QUARTER_TURN: usize = TURN / 4;
 
 /// Where the sine at some index stands in the quarter wave.
 #[derive(Clone, Copy, Debug, PartialEq, Eq)]
@@ -25,7 +25,7 @@ pub fn sine_place(index: usize) -> Place {
 
 /// The place of cosine at `index`.
 pub fn cosine_place(index: usize) -> Place {
-    sine_place(index % TURN + QUARTER)
+    sine_place(index % TURN + QUARTER_TURN)
 }
 
 #[cfg(test)]

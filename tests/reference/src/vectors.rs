@@ -3,17 +3,21 @@
 //! by single blanks; a line that begins with `#` is for human readers. The
 //! README gives the numbers that stand after each word.
 
-use crate::column::{read_column, write_column};
+use crate::columns::{read_column, write_column};
 use crate::distortion::distortion;
-use crate::group::{Kind, ORDERS, group_value, group_values};
-use crate::listing::{GREATEST_LISTING, fill_listing};
-use crate::observation::{GREATEST_VALUE, GREATEST_WINDOWS, Record, Row, add_row, fresh_record};
+use crate::groups::{Kind, group_row, group_value};
+use crate::largest::largest;
+use crate::listing::{LISTING_ROOM, fill_listing};
+use crate::observation::{MOST_WINDOWS, Observation, add_row, fresh_record};
+use crate::observe::observe;
 use crate::random::Random;
-use crate::refusal::{Refusal, number_or_zero};
-use crate::search::largest_where;
-use crate::signals::{Signal, appliances, noise, plain_windows, seeded_windows};
-use crate::spectrum::{GREATEST_LINE, GREATEST_SAMPLE, LINES, WINDOW, spectrum};
-use crate::verdict::{Verdict, verdict};
+use crate::refusals::{Refusal, number_or_zero};
+use crate::rows::{LARGEST_VALUE, ORDER_COUNT, Row};
+use crate::signals::{Signal, appliances, halfway_window, noise, noise_of_ends};
+use crate::signals::{plain_windows, seeded_windows, square_wave, tone};
+use crate::spectrum::{LARGEST_LINE, LARGEST_SAMPLE, LINE_COUNT, LINE_LIMIT, WINDOW_LENGTH};
+use crate::spectrum::{lines_from, spectrum};
+use crate::verdict::{Question, Verdict, order_verdict};
 use std::fmt::Display;
 use std::io::{Result, Write};
 
@@ -57,17 +61,50 @@ impl<W: Write> Printer<W> {
         if refusal == 0 {
             self.numbers("lines", &lines)?;
             for system in SYSTEMS {
-                for (kind, number) in Kind::ALL.into_iter().zip(1..) {
-                    let values = group_values(kind, system, &lines).expect("lines in range");
-                    self.line("groups", &[number, system], &values)?;
-                    self.distortion_case(&values)?;
+                for (kind, number) in Kind::ALL.into_iter().zip(0..) {
+                    let row = group_row(kind, system, &lines).expect("lines in range");
+                    self.line("row", &[number, system], &row.values)?;
+                    self.distortion_case(&row.values)?;
                 }
             }
         }
         Ok(())
     }
 
-    fn distortion_case(&mut self, values: &[u32; ORDERS]) -> Result<()> {
+    /// Lines of the last recording, the buffer's first line being `first`.
+    fn lines_from_case(
+        &mut self,
+        recording: &[i32],
+        start: usize,
+        first: usize,
+        line_count: usize,
+    ) -> Result<()> {
+        let mut lines = vec![0; line_count];
+        let result = lines_from(recording, start, first, &mut lines);
+        if result.is_err() {
+            lines.clear();
+        }
+        let refusal = number_or_zero(&result).into();
+        let numbers = [start, first, line_count, refusal];
+        self.line("lines_from", &numbers, &lines)
+    }
+
+    /// The record after windows of the last recording.
+    fn observe_case(
+        &mut self,
+        recording: &[i32],
+        (start, windows): (usize, usize),
+        system: u64,
+        (kind, number): (Kind, usize),
+    ) -> Result<()> {
+        let result = observe(recording, start, windows, system, kind);
+        let refusal = number_or_zero(&result).into();
+        let numbers = [start, windows, system as usize, number, refusal];
+        self.numbers("observe", &numbers)?;
+        result.map_or(Ok(()), |observation| self.record(&observation))
+    }
+
+    fn distortion_case(&mut self, values: &[u32; ORDER_COUNT]) -> Result<()> {
         let result = distortion(values);
         let answer = [number_or_zero(&result).into(), result.unwrap_or(0)];
         self.line("distortion", &answer, values)
@@ -76,33 +113,33 @@ impl<W: Write> Printer<W> {
     /// Group values for lines that need not come from a window.
     fn group_cases(&mut self, lines: &[u64], systems: &[u64], orders: &[u64]) -> Result<()> {
         self.numbers("lines", lines)?;
-        for (kind, number) in Kind::ALL.into_iter().zip(1..) {
+        for (kind, number) in Kind::ALL.into_iter().zip(0..) {
             for &system in systems {
                 for &order in orders {
                     let result = group_value(kind, system, order, lines);
                     let refusal = number_or_zero(&result).into();
                     let value = result.unwrap_or(0);
-                    self.numbers("group", &[number, system, order, refusal, value])?;
+                    self.numbers("group_value", &[number, system, order, refusal, value])?;
                 }
             }
         }
         Ok(())
     }
 
-    fn record(&mut self, record: &Record) -> Result<()> {
-        let values = [record.smoothed, record.sums, record.peaks].concat();
+    fn record(&mut self, record: &Observation) -> Result<()> {
+        let values = [record.smoothed, record.sum, record.peak].concat();
         self.line("record", &[record.system, record.windows], &values)
     }
 
-    fn fresh_case(&mut self, system: u64) -> Result<Record> {
+    fn fresh_case(&mut self, system: u64) -> Result<Observation> {
         let (record, refusal) = fresh_record(system);
-        self.numbers("fresh", &[system, refusal.map_or(0, Refusal::number).into()])?;
+        self.numbers("fresh_record", &[system, refusal.map_or(0, Refusal::number).into()])?;
         self.record(&record)?;
         Ok(record)
     }
 
     /// Adds a row and prints the record before, the row and the record after.
-    fn row_case(&mut self, record: Record, row: &Row) -> Result<Record> {
+    fn row_case(&mut self, record: Observation, row: &Row) -> Result<Observation> {
         let (next, refusal) = add_row(record, row);
         let refusal = refusal.map_or(0, Refusal::number);
         self.line("add_row", &[refusal.into(), row.system], &row.values)?;
@@ -110,8 +147,8 @@ impl<W: Write> Printer<W> {
         Ok(next)
     }
 
-    fn verdict_case(&mut self, record: &Record, order: u64, units_per_ampere: u64) -> Result<()> {
-        let result = verdict(record, order, units_per_ampere);
+    fn verdict_case(&mut self, record: &Observation, order: u64, scale: u64) -> Result<()> {
+        let result = order_verdict(record, Question { order, scale });
         let (outcome, carried) = match result {
             Err(_) => (0, 0),
             Ok(Verdict::Within(carried)) => (1, carried),
@@ -119,27 +156,27 @@ impl<W: Write> Printer<W> {
             Ok(Verdict::Over(carried)) => (3, carried),
         };
         let refusal = number_or_zero(&result).into();
-        self.numbers("verdict", &[order, units_per_ampere, refusal, outcome, carried])
+        self.numbers("verdict", &[order, scale, refusal, outcome, carried])
     }
 
-    fn column_read_case(&mut self, text: &[u8]) -> Result<()> {
+    fn read_column_case(&mut self, text: &[u8]) -> Result<()> {
         let result = read_column(text);
         let answer = [number_or_zero(&result).into(), result.unwrap_or(0)];
-        self.line("column_read", &answer, text)
+        self.line("read_column", &answer, text)
     }
 
-    fn column_write_case(&mut self, number: i64, length: usize) -> Result<()> {
+    fn write_column_case(&mut self, number: i64, length: usize) -> Result<()> {
         let mut buffer = vec![UNTOUCHED; length];
         let refusal = number_or_zero(&write_column(&mut buffer, number));
-        self.line("column_write", &[number, refusal.into()], &buffer)
+        self.line("write_column", &[number, refusal.into()], &buffer)
     }
 
-    fn listing_case(&mut self, values: &[[u32; ORDERS]; 3], length: usize) -> Result<()> {
+    fn listing_case(&mut self, values: &[[u32; ORDER_COUNT]; 3], length: usize) -> Result<()> {
         let mut buffer = vec![UNTOUCHED; length];
-        let result = fill_listing(&mut buffer, &values[0], &values[1], &values[2]);
+        let result = fill_listing(&values[0], &values[1], &values[2], &mut buffer);
         self.numbers("listing_values", &values.concat())?;
         let refusal = number_or_zero(&result).into();
-        self.line("listing", &[refusal, result.unwrap_or(0)], &buffer)
+        self.line("fill_listing", &[refusal, result.unwrap_or(0)], &buffer)
     }
 }
 
@@ -147,13 +184,13 @@ impl<W: Write> Printer<W> {
 /// outside the window is out of range, as it is not to be looked at.
 fn print_windows_in_recordings<W: Write>(printer: &mut Printer<W>, seed: u64) -> Result<()> {
     for (before, after) in [(1, 0), (1_000, 77), (5, 4_096), (2_048, 2_048)] {
-        let mut signal = noise(WINDOW, GREATEST_SAMPLE, seed);
+        let mut signal = noise(WINDOW_LENGTH, LARGEST_SAMPLE, seed);
         let mut samples = vec![i32::MIN; before];
         samples.append(&mut signal.samples);
         samples.extend(vec![i32::MAX; after]);
         signal.samples = samples;
-        printer.spectrum_case(&signal, before, LINES)?;
-        printer.spectrum_case(&signal, before + 1, LINES)?;
+        printer.spectrum_case(&signal, before, LINE_COUNT)?;
+        printer.spectrum_case(&signal, before + 1, LINE_COUNT)?;
     }
     Ok(())
 }
@@ -165,41 +202,132 @@ fn print_spectrum_refusals<W: Write>(printer: &mut Printer<W>) -> Result<()> {
         samples: (0..length).map(|j| if j == length / 2 { sample } else { 0 }).collect(),
     };
     for sample in [131_071, 131_072, -131_071, -131_072, i32::MIN, i32::MAX] {
-        printer.spectrum_case(&with_sample(WINDOW, sample), 0, LINES)?;
+        printer.spectrum_case(&with_sample(WINDOW_LENGTH, sample), 0, LINE_COUNT)?;
     }
     for (start, line_count) in [
-        (0, LINES - 1),
-        (0, LINES + 1),
+        (0, LINE_COUNT - 1),
+        (0, LINE_COUNT + 1),
         (0, 0),
-        (1, LINES - 1),
-        (1, LINES),
-        (WINDOW, LINES),
-        (WINDOW + 1, LINES),
-        (usize::MAX, LINES),
-        (usize::MAX - WINDOW + 1, LINES),
+        (1, LINE_COUNT - 1),
+        (1, LINE_COUNT),
+        (WINDOW_LENGTH, LINE_COUNT),
+        (WINDOW_LENGTH + 1, LINE_COUNT),
+        (usize::MAX, LINE_COUNT),
+        (usize::MAX - WINDOW_LENGTH + 1, LINE_COUNT),
     ] {
-        printer.spectrum_case(&with_sample(WINDOW, 131_072), start, line_count)?;
+        printer.spectrum_case(&with_sample(WINDOW_LENGTH, 131_072), start, line_count)?;
     }
-    printer.spectrum_case(&with_sample(0, 0), 0, LINES)?;
-    printer.spectrum_case(&with_sample(WINDOW - 1, 0), 0, LINES)
+    printer.spectrum_case(&with_sample(0, 0), 0, LINE_COUNT)?;
+    printer.spectrum_case(&with_sample(WINDOW_LENGTH - 1, 0), 0, LINE_COUNT)
+}
+
+/// Parts of the lines of a window: at every edge, refused ones and their order.
+/// The sample before the window is out of range.
+fn print_line_parts<W: Write>(printer: &mut Printer<W>, seed: u64) -> Result<()> {
+    let signals = [
+        noise(WINDOW_LENGTH, LARGEST_SAMPLE, seed),
+        noise_of_ends(WINDOW_LENGTH, seed),
+        square_wave(WINDOW_LENGTH, 800.0),
+        tone(WINDOW_LENGTH, 1_023.0, 131_071.0, 0.1),
+        halfway_window(-1, true),
+    ];
+    for signal in signals {
+        let recording = [&[i32::MIN], &signal.samples[..]].concat();
+        printer.comment(&signal.name)?;
+        printer.numbers("recording", &recording)?;
+        for start in [1, 0, 2, usize::MAX] {
+            for (first, line_count) in [
+                (0, LINE_LIMIT),
+                (0, 0),
+                (0, 1),
+                (7, 1),
+                (45, 11),
+                (LINE_COUNT - 1, 2),
+                (LINE_COUNT, LINE_COUNT),
+                (LINE_LIMIT - 13, 13),
+                (LINE_LIMIT - 1, 1),
+                (LINE_LIMIT, 0),
+                (0, LINE_LIMIT + 1),
+                (1, LINE_LIMIT),
+                (LINE_COUNT + 1, LINE_COUNT),
+                (LINE_LIMIT, 1),
+                (LINE_LIMIT + 1, 0),
+                (usize::MAX, 0),
+                (usize::MAX, 1),
+                (usize::MAX - LINE_COUNT + 1, LINE_COUNT),
+            ] {
+                printer.lines_from_case(&recording, start, first, line_count)?;
+            }
+        }
+    }
+    Ok(())
+}
+
+/// Windows back to back: all kinds, both systems, a bad sample in each window,
+/// recordings that are short, and the order of these.
+fn print_observations<W: Write>(printer: &mut Printer<W>, seed: u64) -> Result<()> {
+    let kinds = || Kind::ALL.into_iter().zip(0..);
+    let (before, windows) = (5, 10);
+    for system in SYSTEMS {
+        let mut recording = vec![i32::MIN; before];
+        for signal in appliances(WINDOW_LENGTH, system, seed).into_iter().take(windows) {
+            recording.extend(signal.samples);
+        }
+        recording.push(i32::MAX);
+        printer.comment("an appliance in each window")?;
+        printer.numbers("recording", &recording)?;
+        for kind in kinds() {
+            for count in 0..=3 {
+                printer.observe_case(&recording, (before, count), system, kind)?;
+            }
+        }
+        let group = (Kind::HarmonicGroup, 1);
+        for count in [windows, windows + 1, usize::MAX] {
+            printer.observe_case(&recording, (before, count), system, group)?;
+        }
+    }
+    let windows = 3;
+    let good = noise(windows * WINDOW_LENGTH, 40_000, seed).samples;
+    let last = |window: usize| (window + 1) * WINDOW_LENGTH - 1;
+    let mut recordings = vec![good.clone(), Vec::new()];
+    for window in 0..windows {
+        for (place, sample) in [(window * WINDOW_LENGTH, 131_072), (last(window), -131_072)] {
+            let mut bad = good.clone();
+            bad[place] = sample;
+            recordings.push(bad);
+        }
+        recordings.push(good[..last(window)].to_vec());
+    }
+    for recording in recordings {
+        printer.comment("three windows, a bad sample in one or one short")?;
+        printer.numbers("recording", &recording)?;
+        let component = (Kind::Component, 0);
+        for count in 0..=windows + 1 {
+            for start in [0, 1, usize::MAX] {
+                printer.observe_case(&recording, (start, count), 10, component)?;
+            }
+            printer.observe_case(&recording, (0, count), 11, component)?;
+        }
+    }
+    Ok(())
 }
 
 fn print_groups<W: Write>(printer: &mut Printer<W>, random: &mut Random) -> Result<()> {
-    let all_orders: Vec<u64> = (1..=ORDERS as u64).collect();
+    let all_orders: Vec<u64> = (1..=ORDER_COUNT as u64).collect();
     printer.comment("lines at their greatest, and at random")?;
-    printer.group_cases(&[GREATEST_LINE; LINES], &SYSTEMS, &all_orders)?;
+    printer.group_cases(&[LARGEST_LINE; LINE_COUNT], &SYSTEMS, &all_orders)?;
     for shift in [5, 30, 58] {
-        let lines: Vec<u64> = (0..LINES).map(|_| random.bits() >> shift).collect();
+        let lines: Vec<u64> = (0..LINE_COUNT).map(|_| random.bits() >> shift).collect();
         printer.group_cases(&lines, &SYSTEMS, &all_orders)?;
     }
     printer.comment("refusals of the group value and their order")?;
     let systems = [0, 9, 10, 11, 12, 13];
     let orders = [0, 1, 40, 41, u64::from(u32::MAX)];
-    for line_count in [0, LINES - 1, LINES, LINES + 1] {
+    for line_count in [0, LINE_COUNT - 1, LINE_COUNT, LINE_COUNT + 1] {
         let mut lines = vec![4; line_count];
         printer.group_cases(&lines, &systems, &orders)?;
         if let Some(last) = lines.last_mut() {
-            *last = GREATEST_LINE + 1;
+            *last = LARGEST_LINE + 1;
             printer.group_cases(&lines, &systems, &orders)?;
         }
     }
@@ -212,12 +340,12 @@ fn random_value(random: &mut Random) -> u32 {
     (random.bits() >> 32 >> shift) as u32
 }
 
-fn random_values(random: &mut Random) -> [u32; ORDERS] {
+fn random_values(random: &mut Random) -> [u32; ORDER_COUNT] {
     std::array::from_fn(|_| random_value(random))
 }
 
 fn print_distortions<W: Write>(printer: &mut Printer<W>, random: &mut Random) -> Result<()> {
-    let mut values = [0; ORDERS];
+    let mut values = [0; ORDER_COUNT];
     printer.distortion_case(&values)?;
     values[0] = 1;
     printer.distortion_case(&values)?;
@@ -241,8 +369,8 @@ fn print_records<W: Write>(printer: &mut Printer<W>, random: &mut Random) -> Res
             let values = random_values(random);
             record = printer.row_case(record, &Row { system: row_system, values })?;
             for _ in 0..4 {
-                let units_per_ampere = 1 + (random.bits() >> (36 + random.below(28)));
-                printer.verdict_case(&record, random.below(43), units_per_ampere)?;
+                let scale = 1 + (random.bits() >> (36 + random.below(28)));
+                printer.verdict_case(&record, random.below(43), scale)?;
             }
         }
     }
@@ -253,20 +381,20 @@ fn print_records<W: Write>(printer: &mut Printer<W>, random: &mut Random) -> Res
 fn print_record_edges<W: Write>(printer: &mut Printer<W>) -> Result<()> {
     let (fresh, _) = fresh_record(10);
     let held = |windows: u64| {
-        let full = [GREATEST_VALUE; ORDERS];
-        let sums = [windows * GREATEST_VALUE; ORDERS];
-        Record { windows, smoothed: full, sums, peaks: full, ..fresh.clone() }
+        let full = [LARGEST_VALUE; ORDER_COUNT];
+        let sum = [windows * LARGEST_VALUE; ORDER_COUNT];
+        Observation { windows, smoothed: full, sum, peak: full, ..fresh.clone() }
     };
     let mut records = vec![fresh.clone()];
-    for windows in [0, 1, 2, GREATEST_WINDOWS - 1, GREATEST_WINDOWS, GREATEST_WINDOWS + 1] {
+    for windows in [0, 1, 2, MOST_WINDOWS - 1, MOST_WINDOWS, MOST_WINDOWS + 1] {
         records.push(held(windows));
     }
     for system in [0, 11, 12, 13] {
-        records.push(Record { system, ..held(7) });
+        records.push(Observation { system, ..held(7) });
     }
-    let edits: [fn(&mut Record); 3] = [
-        |record| record.sums[39] += 1,
-        |record| record.peaks[39] += 1,
+    let edits: [fn(&mut Observation); 3] = [
+        |record| record.sum[39] += 1,
+        |record| record.peak[39] += 1,
         |record| record.smoothed[0] += 1,
     ];
     for edit in edits {
@@ -278,12 +406,12 @@ fn print_record_edges<W: Write>(printer: &mut Printer<W>) -> Result<()> {
     for record in records {
         for system in [10, 11, 12] {
             printer.record(&record)?;
-            printer.row_case(record.clone(), &Row { system, values: [u32::MAX; ORDERS] })?;
+            printer.row_case(record.clone(), &Row { system, values: [u32::MAX; ORDER_COUNT] })?;
         }
         printer.record(&record)?;
         for order in [0, 1, 2, 40, 41] {
-            for units_per_ampere in [0, 1, 268_435_456, 268_435_457] {
-                printer.verdict_case(&record, order, units_per_ampere)?;
+            for scale in [0, 1, 268_435_456, 268_435_457] {
+                printer.verdict_case(&record, order, scale)?;
             }
         }
     }
@@ -295,41 +423,41 @@ fn print_record_edges<W: Write>(printer: &mut Printer<W>) -> Result<()> {
 fn print_verdicts_about<W: Write>(
     printer: &mut Printer<W>,
     order: u64,
-    units_per_ampere: u64,
+    scale: u64,
     windows: u64,
 ) -> Result<()> {
     let place = order as usize - 1;
     let with = |sum: u64, peak: u64| {
         let (mut record, _) = fresh_record(10);
         record.windows = windows;
-        record.sums[place] = sum;
-        record.peaks[place] = peak;
+        record.sum[place] = sum;
+        record.peak[place] = peak;
         record
     };
-    let verdict_on = |record: &Record| verdict(record, order, units_per_ampere);
-    let is_within = |record: &Record| verdict_on(record) == Ok(Verdict::Within(order));
-    let is_not_over = |record: &Record| verdict_on(record) != Ok(Verdict::Over(order));
+    let verdict_on = |record: &Observation| order_verdict(record, Question { order, scale });
+    let is_within = |record: &Observation| verdict_on(record) == Ok(Verdict::Within(order));
+    let is_not_over = |record: &Observation| verdict_on(record) != Ok(Verdict::Over(order));
     let last_sums = [
-        largest_where(32, |sum| is_within(&with(sum, 0))),
-        largest_where(32, |sum| is_not_over(&with(sum, 0))),
+        largest(32, |sum| is_within(&with(sum, 0))),
+        largest(32, |sum| is_not_over(&with(sum, 0))),
     ];
     let last_peaks = [
-        largest_where(31, |peak| is_within(&with(0, peak))),
-        largest_where(31, |peak| is_not_over(&with(0, peak))),
+        largest(31, |peak| is_within(&with(0, peak))),
+        largest(31, |peak| is_not_over(&with(0, peak))),
     ];
     let sums = last_sums.iter().flat_map(|&sum| [with(sum, 0), with(sum + 1, 0)]);
     let peaks = last_peaks.iter().flat_map(|&peak| [with(0, peak), with(0, peak + 1)]);
     for record in sums.chain(peaks) {
         printer.record(&record)?;
-        printer.verdict_case(&record, order, units_per_ampere)?;
+        printer.verdict_case(&record, order, scale)?;
     }
     Ok(())
 }
 
 fn print_verdicts<W: Write>(printer: &mut Printer<W>) -> Result<()> {
     for order in 2..=40 {
-        for (units_per_ampere, windows) in [(1_000_000, 1), (987_654, 7), (268_435_456, 3)] {
-            print_verdicts_about(printer, order, units_per_ampere, windows)?;
+        for (scale, windows) in [(1_000_000, 1), (987_654, 7), (268_435_456, 3)] {
+            print_verdicts_about(printer, order, scale, windows)?;
         }
     }
     Ok(())
@@ -364,7 +492,7 @@ fn print_columns<W: Write>(printer: &mut Printer<W>, random: &mut Random) -> Res
         b"\t      7",
     ];
     for text in texts {
-        printer.column_read_case(text)?;
+        printer.read_column_case(text)?;
     }
     let alphabet = b"    -0012359+a\n\x00\xff";
     for _ in 0..300 {
@@ -373,44 +501,44 @@ fn print_columns<W: Write>(printer: &mut Printer<W>, random: &mut Random) -> Res
             let place = random.below(text.len() as u64) as usize;
             text[place] = alphabet[random.below(alphabet.len() as u64) as usize];
         }
-        printer.column_read_case(&text)?;
+        printer.read_column_case(&text)?;
     }
     for number in [0, 7, -7, 99_999_999, 100_000_000, -9_999_999, -10_000_000] {
         for length in [0, 7, 8, 9] {
-            printer.column_write_case(number, length)?;
+            printer.write_column_case(number, length)?;
         }
     }
     for number in [i64::from(i32::MIN), i64::from(i32::MAX)] {
-        printer.column_write_case(number, 8)?;
+        printer.write_column_case(number, 8)?;
     }
     for _ in 0..100 {
         let size = (random.bits() >> (36 + random.below(28))) as i64;
-        printer.column_write_case(if random.below(2) == 0 { size } else { -size }, 8)?;
+        printer.write_column_case(if random.below(2) == 0 { size } else { -size }, 8)?;
     }
     Ok(())
 }
 
 fn print_listings<W: Write>(printer: &mut Printer<W>, random: &mut Random) -> Result<()> {
-    let zeros = [[0; ORDERS]; 3];
-    for length in [0, GREATEST_LISTING - 1, GREATEST_LISTING, GREATEST_LISTING + 100] {
+    let zeros = [[0; ORDER_COUNT]; 3];
+    for length in [0, LISTING_ROOM - 1, LISTING_ROOM, LISTING_ROOM + 100] {
         printer.listing_case(&zeros, length)?;
-        printer.listing_case(&[[u32::MAX; ORDERS]; 3], length)?;
+        printer.listing_case(&[[u32::MAX; ORDER_COUNT]; 3], length)?;
     }
     for array in 0..3 {
         for place in [0, 1, 39] {
             let mut values = zeros;
             values[array][place] = 1;
-            printer.listing_case(&values, GREATEST_LISTING)?;
+            printer.listing_case(&values, LISTING_ROOM)?;
         }
     }
     for _ in 0..10 {
         let mut values = [random_values(random), random_values(random), random_values(random)];
-        for place in 0..ORDERS {
+        for place in 0..ORDER_COUNT {
             if random.below(3) == 0 {
                 values.iter_mut().for_each(|array| array[place] = 0);
             }
         }
-        printer.listing_case(&values, GREATEST_LISTING + 3)?;
+        printer.listing_case(&values, LISTING_ROOM + 3)?;
     }
     Ok(())
 }
@@ -420,19 +548,25 @@ pub fn print_vectors(seed: u64, output: impl Write) -> Result<()> {
     let printer = &mut Printer { output };
     let random = &mut Random::new(seed);
     for signal in plain_windows().into_iter().chain(seeded_windows(seed)) {
-        printer.spectrum_case(&signal, 0, LINES)?;
+        printer.spectrum_case(&signal, 0, LINE_COUNT)?;
     }
     for system in SYSTEMS {
-        for signal in appliances(2 * WINDOW, system, seed) {
-            printer.spectrum_case(&signal, random.below(WINDOW as u64) as usize, LINES)?;
+        for signal in appliances(2 * WINDOW_LENGTH, system, seed) {
+            printer.spectrum_case(
+                &signal,
+                random.below(WINDOW_LENGTH as u64) as usize,
+                LINE_COUNT,
+            )?;
         }
     }
     print_windows_in_recordings(printer, seed)?;
     print_spectrum_refusals(printer)?;
+    print_line_parts(printer, seed)?;
     print_groups(printer, random)?;
     print_distortions(printer, random)?;
     print_records(printer, random)?;
     print_record_edges(printer)?;
+    print_observations(printer, seed)?;
     print_verdicts(printer)?;
     print_columns(printer, random)?;
     print_listings(printer, random)

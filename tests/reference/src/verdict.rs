@@ -1,13 +1,22 @@
 //! Class A verdicts (document 01, section of that name). Limits stay exact
 //! fractions, and fractions are compared by cross products.
 
-use crate::observation::{Record, is_sound};
-use crate::refusal::Refusal;
+use crate::observation::{Observation, is_sound};
+use crate::refusals::Refusal;
 
-/// The greatest K, units per ampere.
-pub const GREATEST_UNITS_PER_AMPERE: u64 = 1 << 28;
-/// The band about a value, in units.
-const BAND: i128 = 12;
+/// The largest scale: K, the units per ampere.
+pub const LARGEST_SCALE: u64 = 1 << 28;
+/// How far a smoothed value may lie from the exact one, in units.
+const SMOOTHED_MARGIN: i128 = 12;
+
+/// What is asked: the verdict on an order at a scale.
+#[derive(Clone, Copy, Debug, PartialEq, Eq)]
+pub struct Question {
+    /// The order.
+    pub order: u64,
+    /// K, the units per ampere.
+    pub scale: u64,
+}
 
 /// The verdict on one order, which it carries.
 #[derive(Clone, Copy, Debug, PartialEq, Eq)]
@@ -38,7 +47,7 @@ impl Fraction {
 }
 
 /// The class A limit of an order 2..40 in mA.
-fn limit(order: u64) -> Fraction {
+fn limit_of(order: u64) -> Fraction {
     let (numerator, denominator) = match order {
         2 => (1_080, 1),
         3 => (2_300, 1),
@@ -56,10 +65,10 @@ fn limit(order: u64) -> Fraction {
 }
 
 /// The limit in units: the mA figure × K / 1000, and that times `percent` / 100.
-fn limit_in_units(order: u64, units_per_ampere: u64, percent: i128) -> Fraction {
-    let milliamperes = limit(order);
+fn limit_in_units(order: u64, scale: u64, percent: i128) -> Fraction {
+    let milliamperes = limit_of(order);
     Fraction {
-        numerator: milliamperes.numerator * i128::from(units_per_ampere) * percent,
+        numerator: milliamperes.numerator * i128::from(scale) * percent,
         denominator: milliamperes.denominator * 1_000 * 100,
     }
 }
@@ -67,9 +76,9 @@ fn limit_in_units(order: u64, units_per_ampere: u64, percent: i128) -> Fraction 
 /// One test: within if value + 12 is at most the limit, over if value − 12
 /// exceeds it, else close.
 fn test(value: Fraction, limit: Fraction, order: u64) -> Verdict {
-    if value.plus(BAND).at_most(limit) {
+    if value.plus(SMOOTHED_MARGIN).at_most(limit) {
         Verdict::Within(order)
-    } else if !value.plus(-BAND).at_most(limit) {
+    } else if !value.plus(-SMOOTHED_MARGIN).at_most(limit) {
         Verdict::Over(order)
     } else {
         Verdict::Close(order)
@@ -77,26 +86,29 @@ fn test(value: Fraction, limit: Fraction, order: u64) -> Verdict {
 }
 
 /// The verdict on an order. Refused in this order: 7, 10, 6, 11.
-pub fn verdict(record: &Record, order: u64, units_per_ampere: u64) -> Result<Verdict, Refusal> {
-    if !is_sound(record) {
+pub fn order_verdict(observation: &Observation, question: Question) -> Result<Verdict, Refusal> {
+    let Question { order, scale } = question;
+    if !is_sound(observation) {
         return Err(Refusal::UnsoundRecord);
     }
-    if record.windows == 0 {
+    if observation.windows == 0 {
         return Err(Refusal::NoWindow);
     }
     if !(2..=40).contains(&order) {
-        return Err(Refusal::Order);
+        return Err(Refusal::OrderOutOfRange);
     }
-    if !(1..=GREATEST_UNITS_PER_AMPERE).contains(&units_per_ampere) {
-        return Err(Refusal::UnitsPerAmpere);
+    if !(1..=LARGEST_SCALE).contains(&scale) {
+        return Err(Refusal::ScaleOutOfRange);
     }
     let place = order as usize - 1;
-    let average =
-        Fraction { numerator: record.sums[place].into(), denominator: record.windows.into() };
-    let peak = Fraction { numerator: record.peaks[place].into(), denominator: 1 };
+    let average = Fraction {
+        numerator: observation.sum[place].into(),
+        denominator: observation.windows.into(),
+    };
+    let peak = Fraction { numerator: observation.peak[place].into(), denominator: 1 };
     let tests = [
-        test(average, limit_in_units(order, units_per_ampere, 100), order),
-        test(peak, limit_in_units(order, units_per_ampere, 150), order),
+        test(average, limit_in_units(order, scale, 100), order),
+        test(peak, limit_in_units(order, scale, 150), order),
     ];
     Ok(if tests.contains(&Verdict::Over(order)) {
         Verdict::Over(order)

@@ -2,21 +2,21 @@
 //! groups, and smoothed values within 12 of the exact smoothing.
 
 use reference::exact_group::exact_lines;
-use reference::group::{Kind, group_value};
-use reference::observation::{Row, add_row, fresh_record};
+use reference::groups::{Kind, group_row, group_value};
+use reference::observation::{add_row, fresh_record};
 use reference::signals::{Signal, motor_drive, noise, noise_of_ends, pulse, square_wave, tone};
-use reference::spectrum::{WINDOW, lines_of};
+use reference::spectrum::{WINDOW_LENGTH, lines_of};
 
 #[test]
 fn group_values_lie_within_7_units_of_the_exact_groups() {
     let signals: [Signal; 7] = [
-        pulse(WINDOW, 0, 1_000),
-        noise(WINDOW, 1, 21),
-        noise(WINDOW, 131_071, 22),
-        noise_of_ends(WINDOW, 23),
-        square_wave(WINDOW, 50.0),
-        tone(WINDOW, 57.4, 131_071.0, 0.3),
-        motor_drive(WINDOW, 12, 120_000.0, 1.0),
+        pulse(WINDOW_LENGTH, 0, 1_000),
+        noise(WINDOW_LENGTH, 1, 21),
+        noise(WINDOW_LENGTH, 131_071, 22),
+        noise_of_ends(WINDOW_LENGTH, 23),
+        square_wave(WINDOW_LENGTH, 50.0),
+        tone(WINDOW_LENGTH, 57.4, 131_071.0, 0.3),
+        motor_drive(WINDOW_LENGTH, 12, 120_000.0, 1.0),
     ];
     for signal in signals {
         let lines = lines_of(&signal.samples, 0).unwrap();
@@ -35,7 +35,7 @@ fn group_values_lie_within_7_units_of_the_exact_groups() {
 #[test]
 fn exact_group_of_the_pulse_is_its_sum_of_squares() {
     // Every exact line of the pulse is 2000² but for the error of the series.
-    let exact = exact_lines(&pulse(WINDOW, 0, 1_000).samples);
+    let exact = exact_lines(&pulse(WINDOW_LENGTH, 0, 1_000).samples);
     let root = exact.group(Kind::HarmonicSubgroup, 10, 7).root_in_thousandths();
     assert_eq!(root, 4_898_979);
     assert!(exact.group(Kind::HarmonicSubgroup, 10, 7).is_near(4_891 + 1));
@@ -48,9 +48,9 @@ fn smoothed_values_lie_within_12_units_of_the_exact_smoothing() {
     let (mut record, _) = fresh_record(10);
     let mut exact_smoothed = [0.0; 40];
     for seed in 0..8 {
-        let window = noise(WINDOW, 2_000, 100 + seed).samples;
+        let window = noise(WINDOW_LENGTH, 2_000, 100 + seed).samples;
         let lines = lines_of(&window, 0).unwrap();
-        let values = reference::group::group_values(Kind::HarmonicGroup, 10, &lines).unwrap();
+        let row = group_row(Kind::HarmonicGroup, 10, &lines).unwrap();
         let exact = exact_lines(&window);
         for (order, smoothed) in (1..).zip(&mut exact_smoothed) {
             let root = exact.group(Kind::HarmonicGroup, 10, order).root_in_thousandths();
@@ -58,7 +58,7 @@ fn smoothed_values_lie_within_12_units_of_the_exact_smoothing() {
             let first = record.windows == 0;
             *smoothed = if first { new } else { (1_000.0 * new + 7_012.0 * *smoothed) / 8_012.0 };
         }
-        record = add_row(record, &Row { system: 10, values }).0;
+        record = add_row(record, &row).0;
         for (reported, exact) in record.smoothed.iter().zip(exact_smoothed) {
             assert!((*reported as f64 - exact).abs() <= 12.0);
         }

@@ -1,27 +1,28 @@
 //! The confusions that document 01 expects: each test names one and shows that
 //! this program does not share it.
 
-use reference::group::{Kind, group_value};
-use reference::observation::{Row, add_row, fresh_record, smooth};
-use reference::spectrum::LINES;
-use reference::verdict::{Verdict, verdict};
+use reference::groups::{Kind, group_value};
+use reference::observation::{add_row, fresh_record, smoothed_value};
+use reference::rows::Row;
+use reference::spectrum::LINE_COUNT;
+use reference::verdict::{Question, Verdict, order_verdict};
 
 /// Whether a line enters the group of order 5.
 fn enters(kind: Kind, system: u64, line: u64) -> bool {
-    let mut lines = [0; LINES];
+    let mut lines = [0; LINE_COUNT];
     lines[line as usize] = 1 << 40;
     group_value(kind, system, 5, &lines).unwrap() > 0
 }
 
 #[test]
 fn edge_lines_have_half_weight() {
-    let pulse = [4_000_000; LINES];
+    let pulse = [4_000_000; LINE_COUNT];
     assert_eq!(group_value(Kind::HarmonicGroup, 10, 1, &pulse), Ok(8_944));
     for system in [10, 12] {
-        let mut edges = [0; LINES];
+        let mut edges = [0; LINE_COUNT];
         edges[(system * 5 - system / 2) as usize] = 1 << 40;
         edges[(system * 5 + system / 2) as usize] = 1 << 40;
-        let mut centre = [0; LINES];
+        let mut centre = [0; LINE_COUNT];
         centre[system as usize * 5] = 1 << 40;
         let both_edges = group_value(Kind::HarmonicGroup, system, 5, &edges);
         assert_eq!(both_edges, group_value(Kind::HarmonicGroup, system, 5, &centre));
@@ -54,14 +55,14 @@ fn values_are_smoothed_and_not_their_squares() {
     let (new, old) = (0.0_f64, 8_944.0_f64);
     let of_squares = ((1_000.0 * new * new + 7_012.0 * old * old) / 8_012.0).sqrt();
     assert_eq!(of_squares.round(), 8_367.0);
-    assert_eq!(smooth(0, 8_944), 7_828);
+    assert_eq!(smoothed_value(0, 8_944), 7_828);
 }
 
 /// The verdict on one window with a value at every order.
-fn verdict_on(value: u32, order: u64, units_per_ampere: u64) -> Verdict {
+fn verdict_on(value: u32, order: u64, scale: u64) -> Verdict {
     let (record, _) = fresh_record(10);
     let (record, _) = add_row(record, &Row { system: 10, values: [value; 40] });
-    verdict(&record, order, units_per_ampere).unwrap()
+    order_verdict(&record, Question { order, scale }).unwrap()
 }
 
 #[test]

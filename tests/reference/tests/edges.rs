@@ -1,38 +1,44 @@
 //! Edges of every public function, and the order of its refusals (document 01,
 //! "Where each refusal is checked").
 
-use reference::column::{read_column, text_of, write_column};
+use reference::columns::{column_text, read_column, write_column};
 use reference::distortion::distortion;
-use reference::group::{Kind, group_value, group_values};
+use reference::groups::{Kind, group_row, group_value};
 use reference::listing::{fill_listing, listing_text};
-use reference::observation::{Record, Row, add_row, fresh_record, is_sound, smooth};
+use reference::observation::{Observation, add_row, fresh_record, is_sound, smoothed_value};
 use reference::random::Random;
-use reference::refusal::Refusal;
+use reference::refusals::Refusal;
+use reference::rows::{LARGEST_VALUE, Row};
 use reference::signals::{halfway_window, noise, plain_windows, pulse, square_wave};
-use reference::spectrum::{GREATEST_LINE, LINES, WINDOW, lines_of, spectrum};
-use reference::table::full_wave;
-use reference::verdict::{Verdict, verdict};
-
-const GREATEST: u64 = u32::MAX as u64;
+use reference::spectrum::{LARGEST_LINE, LINE_COUNT, WINDOW_LENGTH, lines_of, spectrum};
+use reference::table::wave;
+use reference::verdict::{Question, Verdict, order_verdict};
 
 #[test]
 fn window_may_end_exactly_at_the_end() {
-    let window = noise(WINDOW, 131_071, 5).samples;
+    let window = noise(WINDOW_LENGTH, 131_071, 5).samples;
     let alone = lines_of(&window, 0);
     for (before, after) in [(0, 0), (3, 0), (0, 9), (2_500, 1), (1, 5_000)] {
         let mut recording = vec![i32::MAX; before];
         recording.extend(&window);
         recording.extend(vec![i32::MIN; after]);
         assert_eq!(lines_of(&recording, before), alone);
-        let past = recording.len() - WINDOW + 1;
+        let past = recording.len() - WINDOW_LENGTH + 1;
         assert_eq!(lines_of(&recording, past), Err(Refusal::ShortWindow));
     }
 }
 
 #[test]
 fn start_may_lie_far_past_the_end() {
-    let recording = [0; WINDOW];
-    for start in [1, WINDOW, WINDOW + 1, usize::MAX - WINDOW, usize::MAX - 1, usize::MAX] {
+    let recording = [0; WINDOW_LENGTH];
+    for start in [
+        1,
+        WINDOW_LENGTH,
+        WINDOW_LENGTH + 1,
+        usize::MAX - WINDOW_LENGTH,
+        usize::MAX - 1,
+        usize::MAX,
+    ] {
         assert_eq!(lines_of(&recording, start), Err(Refusal::ShortWindow));
     }
     assert_eq!(lines_of(&[], 0), Err(Refusal::ShortWindow));
@@ -40,13 +46,13 @@ fn start_may_lie_far_past_the_end() {
 
 #[test]
 fn spectrum_refuses_in_order_and_leaves_the_buffer() {
-    let mut bad = vec![0; WINDOW];
+    let mut bad = vec![0; WINDOW_LENGTH];
     bad[2_047] = -131_072;
     for (start, line_count, expected) in [
-        (1, LINES - 1, Refusal::ShortWindow),
-        (0, LINES - 1, Refusal::LineCount),
-        (0, LINES + 1, Refusal::LineCount),
-        (0, LINES, Refusal::SampleRange),
+        (1, LINE_COUNT - 1, Refusal::ShortWindow),
+        (0, LINE_COUNT - 1, Refusal::WrongLineCount),
+        (0, LINE_COUNT + 1, Refusal::WrongLineCount),
+        (0, LINE_COUNT, Refusal::SampleOutOfRange),
     ] {
         let mut lines = vec![7; line_count];
         assert_eq!(spectrum(&bad, start, &mut lines), Err(expected));
@@ -59,7 +65,7 @@ fn samples_at_both_ends_of_the_range_are_taken() {
     for (sample, taken) in [(131_071, true), (131_072, false), (-131_071, true), (-131_072, false)]
     {
         for place in [0, 1_000, 2_047] {
-            let mut window = [0; WINDOW];
+            let mut window = [0; WINDOW_LENGTH];
             window[place] = sample;
             assert_eq!(lines_of(&window, 0).is_ok(), taken, "{sample} at {place}");
         }
@@ -69,10 +75,10 @@ fn samples_at_both_ends_of_the_range_are_taken() {
 #[test]
 fn line_sums_are_rounded_before_they_are_squared() {
     // For 1 at sample 1, A and B are twice the cosine and sine at the line.
-    let lines = lines_of(&pulse(WINDOW, 1, 1).samples, 0).unwrap();
+    let lines = lines_of(&pulse(WINDOW_LENGTH, 1, 1).samples, 0).unwrap();
     let rounded = |value: f64| (value + 0.5).floor();
     for (k, &line) in lines.iter().enumerate() {
-        let angle = std::f64::consts::TAU * k as f64 / WINDOW as f64;
+        let angle = std::f64::consts::TAU * k as f64 / WINDOW_LENGTH as f64;
         let expected = rounded(2.0 * angle.cos()).powi(2) + rounded(2.0 * angle.sin()).powi(2);
         assert_eq!(line as f64, expected, "line {k}");
     }
@@ -80,7 +86,7 @@ fn line_sums_are_rounded_before_they_are_squared() {
 
 /// The sums of line 128 with cosine and with sine.
 fn sums_of_line_128(window: &[i32]) -> [i64; 2] {
-    let wave = full_wave();
+    let wave = wave();
     [512, 0].map(|shift| {
         let entry = |j: usize| i64::from(wave[(128 * j + shift) % 2_048]);
         window.iter().enumerate().map(|(j, &sample)| i64::from(sample) * entry(j)).sum()
@@ -109,27 +115,27 @@ fn halves_of_a_line_sum_go_up_on_both_sides_of_zero() {
 fn no_line_of_a_window_is_above_the_greatest() {
     for signal in plain_windows() {
         let lines = lines_of(&signal.samples, 0).unwrap();
-        assert!(lines.iter().all(|&line| line <= GREATEST_LINE), "{}", signal.name);
+        assert!(lines.iter().all(|&line| line <= LARGEST_LINE), "{}", signal.name);
     }
-    let lines = lines_of(&square_wave(WINDOW, 0.0).samples, 0).unwrap();
+    let lines = lines_of(&square_wave(WINDOW_LENGTH, 0.0).samples, 0).unwrap();
     assert_eq!(lines[0], (2 * 2_048 * 131_071_u64).pow(2));
 }
 
 #[test]
 fn group_value_refuses_in_order() {
-    let good = vec![4; LINES];
+    let good = vec![4; LINE_COUNT];
     let mut above = good.clone();
-    above[511] = GREATEST_LINE + 1;
-    let long = vec![u64::MAX; LINES + 1];
+    above[511] = LARGEST_LINE + 1;
+    let long = vec![u64::MAX; LINE_COUNT + 1];
     for kind in Kind::ALL {
         for (system, order, lines, expected) in [
-            (11, 0, &long, Refusal::System),
-            (0, 1, &good, Refusal::System),
-            (10, 0, &long, Refusal::Order),
-            (12, 41, &above, Refusal::Order),
-            (12, u64::MAX, &good, Refusal::Order),
-            (10, 1, &long, Refusal::LineCount),
-            (12, 40, &above, Refusal::LineRange),
+            (11, 0, &long, Refusal::UnknownSystem),
+            (0, 1, &good, Refusal::UnknownSystem),
+            (10, 0, &long, Refusal::OrderOutOfRange),
+            (12, 41, &above, Refusal::OrderOutOfRange),
+            (12, u64::MAX, &good, Refusal::OrderOutOfRange),
+            (10, 1, &long, Refusal::WrongLineCount),
+            (12, 40, &above, Refusal::LineTooLarge),
         ] {
             assert_eq!(group_value(kind, system, order, lines), Err(expected));
         }
@@ -138,13 +144,13 @@ fn group_value_refuses_in_order() {
 
 #[test]
 fn every_line_of_the_buffer_is_checked() {
-    for place in 0..LINES {
-        let mut lines = [0; LINES];
-        lines[place] = GREATEST_LINE;
+    for place in 0..LINE_COUNT {
+        let mut lines = [0; LINE_COUNT];
+        lines[place] = LARGEST_LINE;
         assert!(group_value(Kind::Component, 10, 1, &lines).is_ok());
-        lines[place] = GREATEST_LINE + 1;
+        lines[place] = LARGEST_LINE + 1;
         let result = group_value(Kind::Component, 10, 1, &lines);
-        assert_eq!(result, Err(Refusal::LineRange));
+        assert_eq!(result, Err(Refusal::LineTooLarge));
     }
 }
 
@@ -152,13 +158,13 @@ fn every_line_of_the_buffer_is_checked() {
 fn greatest_lines_give_values_of_32_bits() {
     for system in [10, 12] {
         for kind in Kind::ALL {
-            let values = group_values(kind, system, &[GREATEST_LINE; LINES]).unwrap();
-            let wide = group_value(kind, system, 40, &[GREATEST_LINE; LINES]).unwrap();
+            let values = group_row(kind, system, &[LARGEST_LINE; LINE_COUNT]).unwrap().values;
+            let wide = group_value(kind, system, 40, &[LARGEST_LINE; LINE_COUNT]).unwrap();
             assert_eq!(u64::from(values[39]), wide);
         }
     }
     // 24 × 2^59 is the greatest sum; its root is 3719550786.
-    let greatest = group_value(Kind::HarmonicGroup, 12, 1, &[GREATEST_LINE; LINES]);
+    let greatest = group_value(Kind::HarmonicGroup, 12, 1, &[LARGEST_LINE; LINE_COUNT]);
     assert_eq!(greatest, Ok(3_719_550_786));
 }
 
@@ -194,10 +200,10 @@ fn row(system: u64, value: u32) -> Row {
 }
 
 /// A sound record of so many windows, all at the greatest value.
-fn full_record(windows: u64) -> Record {
+fn full_record(windows: u64) -> Observation {
     let (fresh, _) = fresh_record(10);
-    let full = [GREATEST; 40];
-    Record { windows, smoothed: full, sums: [windows * GREATEST; 40], peaks: full, ..fresh }
+    let full = [LARGEST_VALUE; 40];
+    Observation { windows, smoothed: full, sum: [windows * LARGEST_VALUE; 40], peak: full, ..fresh }
 }
 
 #[test]
@@ -205,10 +211,10 @@ fn fresh_record_holds_zeros() {
     for system in [10, 12] {
         let (record, refusal) = fresh_record(system);
         assert_eq!((record.system, record.windows, refusal), (system, 0, None));
-        assert_eq!([record.smoothed, record.sums, record.peaks], [[0; 40]; 3]);
+        assert_eq!([record.smoothed, record.sum, record.peak], [[0; 40]; 3]);
     }
     for system in [0, 11, 13, u64::MAX] {
-        assert_eq!(fresh_record(system), (fresh_record(10).0, Some(Refusal::System)));
+        assert_eq!(fresh_record(system), (fresh_record(10).0, Some(Refusal::UnknownSystem)));
     }
 }
 
@@ -217,10 +223,10 @@ fn soundness_has_each_of_its_parts() {
     assert!(is_sound(&full_record(1)));
     assert!(is_sound(&full_record(45_000)));
     assert!(!is_sound(&full_record(45_001)));
-    assert!(!is_sound(&Record { system: 11, ..full_record(1) }));
-    let edits: [fn(&mut Record); 3] = [
-        |record| record.sums[7] += 1,
-        |record| record.peaks[7] += 1,
+    assert!(!is_sound(&Observation { system: 11, ..full_record(1) }));
+    let edits: [fn(&mut Observation); 3] = [
+        |record| record.sum[7] += 1,
+        |record| record.peak[7] += 1,
         |record| record.smoothed[7] += 1,
     ];
     for edit in edits {
@@ -239,9 +245,9 @@ fn add_row_refuses_in_order_and_leaves_the_record() {
     for (record, system, expected) in [
         (&unsound, 11, Refusal::UnsoundRecord),
         (&unsound, 10, Refusal::UnsoundRecord),
-        (&full, 11, Refusal::System),
+        (&full, 11, Refusal::UnknownSystem),
         (&full, 12, Refusal::OtherSystem),
-        (&full, 10, Refusal::FullRecord),
+        (&full, 10, Refusal::RecordFull),
     ] {
         let (after, refusal) = add_row(record.clone(), &row(system, 1));
         assert_eq!((&after, refusal), (record, Some(expected)));
@@ -256,11 +262,11 @@ fn sums_and_peaks_are_of_smoothed_values() {
     for value in [8_944, 0, 8_944] {
         record = add_row(record, &row(12, value)).0;
     }
-    let last = smooth(8_944, 7_828);
+    let last = smoothed_value(8_944, 7_828);
     assert_eq!(record.windows, 3);
     assert_eq!(record.smoothed, [last; 40]);
-    assert_eq!(record.sums, [8_944 + 7_828 + last; 40]);
-    assert_eq!(record.peaks, [8_944; 40]);
+    assert_eq!(record.sum, [8_944 + 7_828 + last; 40]);
+    assert_eq!(record.peak, [8_944; 40]);
 }
 
 #[test]
@@ -275,40 +281,43 @@ fn smoothing_rounds_to_the_nearest() {
     for (new, old) in (0..2_003).flat_map(|new| (0..8).map(move |old| (new, old))) {
         let (quotient, rest) = quotient_and_rest(new, old);
         assert_ne!(rest, 4_006);
-        assert_eq!(smooth(new, old), quotient + u64::from(rest > 4_006));
+        assert_eq!(smoothed_value(new, old), quotient + u64::from(rest > 4_006));
         rests_beside_the_half += u32::from(rest == 4_004 || rest == 4_008);
     }
     assert_eq!(rests_beside_the_half, 16);
-    assert_eq!(smooth(GREATEST, GREATEST), GREATEST);
+    assert_eq!(smoothed_value(LARGEST_VALUE, LARGEST_VALUE), LARGEST_VALUE);
 }
 
 #[test]
 fn verdict_refuses_in_order() {
     let (fresh, _) = fresh_record(10);
     let held = full_record(1);
-    for (record, order, units_per_ampere, expected) in [
+    for (record, order, scale, expected) in [
         (&full_record(45_001), 1, 0, Refusal::UnsoundRecord),
         (&fresh, 1, 0, Refusal::NoWindow),
         (&fresh, 3, 1, Refusal::NoWindow),
-        (&held, 1, 0, Refusal::Order),
-        (&held, 0, 1, Refusal::Order),
-        (&held, 41, 0, Refusal::Order),
-        (&held, 2, 0, Refusal::UnitsPerAmpere),
-        (&held, 40, 268_435_457, Refusal::UnitsPerAmpere),
+        (&held, 1, 0, Refusal::OrderOutOfRange),
+        (&held, 0, 1, Refusal::OrderOutOfRange),
+        (&held, 41, 0, Refusal::OrderOutOfRange),
+        (&held, 2, 0, Refusal::ScaleOutOfRange),
+        (&held, 40, 268_435_457, Refusal::ScaleOutOfRange),
     ] {
-        assert_eq!(verdict(record, order, units_per_ampere), Err(expected));
+        assert_eq!(order_verdict(record, Question { order, scale }), Err(expected));
     }
-    assert_eq!(verdict(&held, 2, 1), Ok(Verdict::Over(2)));
-    assert_eq!(verdict(&held, 40, 268_435_456), Ok(Verdict::Over(40)));
+    assert_eq!(order_verdict(&held, Question { order: 2, scale: 1 }), Ok(Verdict::Over(2)));
+    assert_eq!(
+        order_verdict(&held, Question { order: 40, scale: 268_435_456 }),
+        Ok(Verdict::Over(40))
+    );
 }
 
 /// The verdict on order 3 with 2,300,000 units of limit and 3,450,000 of peak.
 fn verdict_on_order_3(windows: u64, sum: u64, peak: u64) -> Verdict {
     let (mut record, _) = fresh_record(10);
     record.windows = windows;
-    record.sums[2] = sum;
-    record.peaks[2] = peak;
-    verdict(&record, 3, 1_000_000).unwrap()
+    record.sum[2] = sum;
+    record.peak[2] = peak;
+    order_verdict(&record, Question { order: 3, scale: 1_000_000 }).unwrap()
 }
 
 #[test]
@@ -340,13 +349,15 @@ fn last_within(order: usize) -> u64 {
     let record_of = |value: u64| {
         let (mut record, _) = fresh_record(10);
         record.windows = 1;
-        record.sums[order - 1] = value;
+        record.sum[order - 1] = value;
         record
     };
     let order = order as u64;
-    let is_within =
-        |value| verdict(&record_of(value), order, 1_000_000) == Ok(Verdict::Within(order));
-    reference::search::largest_where(22, is_within)
+    let is_within = |value| {
+        order_verdict(&record_of(value), Question { order, scale: 1_000_000 })
+            == Ok(Verdict::Within(order))
+    };
+    reference::largest::largest(22, is_within)
 }
 
 #[test]
@@ -383,7 +394,7 @@ fn only_the_written_form_is_read() {
         let text: [u8; 8] =
             std::array::from_fn(|place| alphabet[code / 5_usize.pow(place as u32) % 5]);
         if let Ok(number) = read_column(&text) {
-            assert_eq!(text_of(number, 8).as_deref(), Some(&text[..]));
+            assert_eq!(column_text(number, 8).as_deref(), Some(&text[..]));
         }
     }
 }
@@ -408,17 +419,17 @@ fn column_edges() {
         b"      7\n",
     ];
     for text in refused {
-        assert_eq!(read_column(text), Err(Refusal::ColumnForm), "{text:?}");
+        assert_eq!(read_column(text), Err(Refusal::NotAColumn), "{text:?}");
     }
     for (number, length, expected) in [
         (99_999_999, 8, Ok(())),
         (-9_999_999, 8, Ok(())),
-        (100_000_000, 8, Err(Refusal::ColumnForm)),
-        (-10_000_000, 8, Err(Refusal::ColumnForm)),
-        (i64::MIN, 8, Err(Refusal::ColumnForm)),
-        (100_000_000, 9, Err(Refusal::BufferLength)),
-        (1, 7, Err(Refusal::BufferLength)),
-        (1, 0, Err(Refusal::BufferLength)),
+        (100_000_000, 8, Err(Refusal::NotAColumn)),
+        (-10_000_000, 8, Err(Refusal::NotAColumn)),
+        (i64::MIN, 8, Err(Refusal::NotAColumn)),
+        (100_000_000, 9, Err(Refusal::WrongBufferLength)),
+        (1, 7, Err(Refusal::WrongBufferLength)),
+        (1, 0, Err(Refusal::WrongBufferLength)),
     ] {
         let mut buffer = vec![b'#'; length];
         assert_eq!(write_column(&mut buffer, number), expected);
@@ -430,10 +441,10 @@ fn column_edges() {
 fn listing_needs_its_whole_buffer() {
     let full = [u32::MAX; 40];
     let mut short = [b'#'; 1_639];
-    assert_eq!(fill_listing(&mut short, &full, &full, &full), Err(Refusal::BufferLength));
+    assert_eq!(fill_listing(&full, &full, &full, &mut short), Err(Refusal::WrongBufferLength));
     assert_eq!(short, [b'#'; 1_639]);
     let mut buffer = [b'#'; 1_700];
-    assert_eq!(fill_listing(&mut buffer, &full, &full, &full), Ok(1_640));
+    assert_eq!(fill_listing(&full, &full, &full, &mut buffer), Ok(1_640));
     assert_eq!(&buffer[1_600..1_640], b" 40  4294967295  4294967295  4294967295\n");
     assert_eq!(buffer[1_640..], [b'#'; 60]);
 }

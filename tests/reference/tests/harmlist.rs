@@ -1,13 +1,13 @@
 //! The program `harmlist`: its listing over several windows, each fault, and
 //! that the first fault in input order decides.
 
-use reference::group::{Kind, group_values};
+use reference::groups::{Kind, group_row};
 use reference::harmlist::harmlist;
 use reference::inputs::{all_inputs, input_bytes};
 use reference::listing::listing_text;
-use reference::observation::{Row, add_row, fresh_record};
+use reference::observation::{add_row, fresh_record};
 use reference::signals::{constant, microwave_oven};
-use reference::spectrum::{WINDOW, lines_of};
+use reference::spectrum::{WINDOW_LENGTH, lines_of};
 
 fn output(input: Vec<u8>) -> String {
     String::from_utf8(harmlist(input.into_iter())).unwrap()
@@ -15,19 +15,19 @@ fn output(input: Vec<u8>) -> String {
 
 /// A good input of one window with some bytes after it.
 fn one_window_and(rest: &[u8]) -> Vec<u8> {
-    [&input_bytes(10, &[500; WINDOW]), rest].concat()
+    [&input_bytes(10, &[500; WINDOW_LENGTH]), rest].concat()
 }
 
 #[test]
 fn groups_are_the_last_windows_and_smoothed_that_of_all() {
-    let samples = microwave_oven(5 * WINDOW, 12, 100_000.0, 17, 9).samples;
+    let samples = microwave_oven(5 * WINDOW_LENGTH, 12, 100_000.0, 17, 9).samples;
     let (mut record, _) = fresh_record(12);
     let mut last = ([0; 40], [0; 40]);
-    for window in samples.chunks(WINDOW) {
+    for window in samples.chunks(WINDOW_LENGTH) {
         let lines = lines_of(window, 0).unwrap();
-        let group = group_values(Kind::HarmonicGroup, 12, &lines).unwrap();
-        last = (group, group_values(Kind::HarmonicSubgroup, 12, &lines).unwrap());
-        record = add_row(record, &Row { system: 12, values: group }).0;
+        let group = group_row(Kind::HarmonicGroup, 12, &lines).unwrap();
+        last = (group.values, group_row(Kind::HarmonicSubgroup, 12, &lines).unwrap().values);
+        record = add_row(record, &group).0;
     }
     let smoothed = record.smoothed.map(|value| value as u32);
     let expected = listing_text(&last.0, &last.1, &smoothed);
@@ -36,7 +36,7 @@ fn groups_are_the_last_windows_and_smoothed_that_of_all() {
 
 #[test]
 fn each_fault_has_its_number() {
-    let short = [0; WINDOW - 1];
+    let short = [0; WINDOW_LENGTH - 1];
     let above = [131_072; 1];
     for (input, expected) in [
         (Vec::new(), "refused 13\n"),
@@ -86,22 +86,22 @@ fn zero_lines(count: usize, rest: &'static [u8]) -> impl Iterator<Item = u8> {
 
 #[test]
 fn window_45001_is_refused_at_its_last_line() {
-    let all_but_last = 45_001 * WINDOW - 1;
+    let all_but_last = 45_001 * WINDOW_LENGTH - 1;
     assert_eq!(harmlist(zero_lines(all_but_last, b"       0\nx")), b"refused  9\n");
 }
 
 #[test]
 #[ignore = "reads 800 megabytes"]
 fn last_line_of_window_45001_may_have_an_earlier_fault() {
-    let all_but_last = 45_001 * WINDOW - 1;
+    let all_but_last = 45_001 * WINDOW_LENGTH - 1;
     assert_eq!(harmlist(zero_lines(all_but_last, b"  131072\n")), b"refused  3\n");
 }
 
 #[test]
 #[ignore = "reads 800 megabytes"]
 fn window_45000_is_taken() {
-    let expected = output(input_bytes(10, &constant(WINDOW, 0).samples));
-    assert_eq!(harmlist(zero_lines(45_000 * WINDOW, b"")), expected.into_bytes());
+    let expected = output(input_bytes(10, &constant(WINDOW_LENGTH, 0).samples));
+    assert_eq!(harmlist(zero_lines(45_000 * WINDOW_LENGTH, b"")), expected.into_bytes());
 }
 
 #[test]

@@ -1,23 +1,24 @@
 //! The worked numbers of document 01, by their marks, and the worked listing.
 
-use reference::column::read_column;
-use reference::group::{Kind, group_value, group_values};
+use reference::columns::read_column;
+use reference::groups::{Kind, group_row, group_value};
 use reference::harmlist::harmlist;
 use reference::inputs::input_bytes;
-use reference::observation::{Record, Row, add_row, fresh_record};
-use reference::refusal::Refusal;
+use reference::observation::{Observation, add_row, fresh_record};
+use reference::refusals::Refusal;
+use reference::rows::Row;
 use reference::signals::{constant, pulse};
-use reference::spectrum::{WINDOW, lines_of};
+use reference::spectrum::{WINDOW_LENGTH, lines_of};
 use reference::table::quarter_wave;
-use reference::verdict::{Verdict, verdict};
+use reference::verdict::{Question, Verdict, order_verdict};
 
 /// The pulse of document 01: sample 0 is 1000, the rest 0.
 fn pulse_lines() -> [u64; 512] {
-    lines_of(&pulse(WINDOW, 0, 1_000).samples, 0).unwrap()
+    lines_of(&pulse(WINDOW_LENGTH, 0, 1_000).samples, 0).unwrap()
 }
 
 /// The record after rows that hold one value at all orders.
-fn record_of(system: u64, values: &[u32]) -> Record {
+fn record_of(system: u64, values: &[u32]) -> Observation {
     let (fresh, _) = fresh_record(system);
     values.iter().fold(fresh, |record, &value| {
         let (record, refusal) = add_row(record, &Row { system, values: [value; 40] });
@@ -46,8 +47,10 @@ fn numbers_3_to_7_groups_of_the_pulse() {
         (Kind::InterharmonicGroup, 8_485, 9_380),
         (Kind::InterharmonicCentredSubgroup, 7_483, 8_485),
     ] {
-        assert_eq!(group_values(kind, 10, &pulse_lines()), Ok([at_10; 40]), "{kind:?}");
-        assert_eq!(group_values(kind, 12, &pulse_lines()), Ok([at_12; 40]), "{kind:?}");
+        for (system, value) in [(10, at_10), (12, at_12)] {
+            let row = Row { system, values: [value; 40] };
+            assert_eq!(group_row(kind, system, &pulse_lines()), Ok(row), "{kind:?}");
+        }
     }
 }
 
@@ -65,43 +68,59 @@ fn number_9_verdicts_on_order_3() {
         (2_300_012, Verdict::Close(3)),
         (2_300_013, Verdict::Over(3)),
     ] {
-        assert_eq!(verdict(&record_of(12, &[value]), 3, 1_000_000), Ok(expected), "{value}");
+        assert_eq!(
+            order_verdict(&record_of(12, &[value]), Question { order: 3, scale: 1_000_000 }),
+            Ok(expected),
+            "{value}"
+        );
     }
 }
 
 #[test]
 fn number_10_columns() {
     assert_eq!(read_column(b"      -7"), Ok(-7));
-    assert_eq!(read_column(b"      07"), Err(Refusal::ColumnForm));
-    assert_eq!(read_column(b"      -0"), Err(Refusal::ColumnForm));
+    assert_eq!(read_column(b"      07"), Err(Refusal::NotAColumn));
+    assert_eq!(read_column(b"      -0"), Err(Refusal::NotAColumn));
 }
 
 #[test]
 fn unmarked_sample_range() {
-    let refusal = |sample| lines_of(&pulse(WINDOW, 9, sample).samples, 0).err();
+    let refusal = |sample| lines_of(&pulse(WINDOW_LENGTH, 9, sample).samples, 0).err();
     assert_eq!(refusal(131_071), None);
-    assert_eq!(refusal(131_072), Some(Refusal::SampleRange));
+    assert_eq!(refusal(131_072), Some(Refusal::SampleOutOfRange));
 }
 
 #[test]
 fn unmarked_orders() {
     let value = |order| group_value(Kind::Component, 12, order, &pulse_lines());
     assert_eq!(value(40), Ok(2_828));
-    assert_eq!(value(41), Err(Refusal::Order));
-    assert_eq!(verdict(&record_of(10, &[0]), 40, 1_000_000), Ok(Verdict::Within(40)));
-    assert_eq!(verdict(&record_of(10, &[0]), 41, 1_000_000), Err(Refusal::Order));
+    assert_eq!(value(41), Err(Refusal::OrderOutOfRange));
+    assert_eq!(
+        order_verdict(&record_of(10, &[0]), Question { order: 40, scale: 1_000_000 }),
+        Ok(Verdict::Within(40))
+    );
+    assert_eq!(
+        order_verdict(&record_of(10, &[0]), Question { order: 41, scale: 1_000_000 }),
+        Err(Refusal::OrderOutOfRange)
+    );
 }
 
 #[test]
-fn unmarked_units_per_ampere() {
+fn unmarked_scales() {
     let record = record_of(10, &[0]);
-    assert_eq!(verdict(&record, 2, 268_435_456), Ok(Verdict::Within(2)));
-    assert_eq!(verdict(&record, 2, 268_435_457), Err(Refusal::UnitsPerAmpere));
+    assert_eq!(
+        order_verdict(&record, Question { order: 2, scale: 268_435_456 }),
+        Ok(Verdict::Within(2))
+    );
+    assert_eq!(
+        order_verdict(&record, Question { order: 2, scale: 268_435_457 }),
+        Err(Refusal::ScaleOutOfRange)
+    );
 }
 
 #[test]
 fn listing_of_a_constant_window() {
-    let input = input_bytes(10, &constant(WINDOW, 500).samples);
+    let input = input_bytes(10, &constant(WINDOW_LENGTH, 500).samples);
     let expected = "  h       group    subgroup    smoothed
   1           0           0           0
 ";

@@ -3,13 +3,13 @@
 //! leading zero but the single 0, and no −0. The rule is the same for every
 //! width; the public columns are of 8 bytes.
 
-use crate::refusal::Refusal;
+use crate::refusals::Refusal;
 
 /// The width of a number column.
-pub const WIDTH: usize = 8;
+pub const COLUMN_WIDTH: usize = 8;
 
 /// The number as the text of a column, if it is not wider.
-pub fn text_of(number: i64, width: usize) -> Option<Vec<u8>> {
+pub fn column_text(number: i64, width: usize) -> Option<Vec<u8>> {
     let text = format!("{number:>width$}").into_bytes();
     (text.len() == width).then_some(text)
 }
@@ -22,7 +22,7 @@ fn are_digits(bytes: &[u8]) -> bool {
 }
 
 /// The number in a column of at most 18 bytes, if the text has the form.
-pub fn number_in(text: &[u8]) -> Option<i64> {
+pub fn column_number(text: &[u8]) -> Option<i64> {
     let blanks = text.iter().take_while(|&&byte| byte == b' ').count();
     let signed = &text[blanks..];
     let digits = signed.strip_prefix(b"-").unwrap_or(signed);
@@ -36,19 +36,19 @@ pub fn number_in(text: &[u8]) -> Option<i64> {
 
 /// Reads a column of 8 bytes. Refused: 13.
 pub fn read_column(text: &[u8]) -> Result<i64, Refusal> {
-    if text.len() != WIDTH {
-        return Err(Refusal::ColumnForm);
+    if text.len() != COLUMN_WIDTH {
+        return Err(Refusal::NotAColumn);
     }
-    number_in(text).ok_or(Refusal::ColumnForm)
+    column_number(text).ok_or(Refusal::NotAColumn)
 }
 
 /// Writes a column of 8 bytes; a refusal leaves the buffer as it was. Refused
 /// in this order: 14, 13.
 pub fn write_column(buffer: &mut [u8], number: i64) -> Result<(), Refusal> {
-    if buffer.len() != WIDTH {
-        return Err(Refusal::BufferLength);
+    if buffer.len() != COLUMN_WIDTH {
+        return Err(Refusal::WrongBufferLength);
     }
-    let text = text_of(number, WIDTH).ok_or(Refusal::ColumnForm)?;
+    let text = column_text(number, COLUMN_WIDTH).ok_or(Refusal::NotAColumn)?;
     buffer.copy_from_slice(&text);
     Ok(())
 }

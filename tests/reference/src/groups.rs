@@ -1,11 +1,9 @@
 //! Groups of spectral lines (document 01, "Groups").
 
-use crate::refusal::Refusal;
-use crate::search::whole_root;
-use crate::spectrum::{GREATEST_LINE, LINES};
-
-/// The number of orders in a row.
-pub const ORDERS: usize = 40;
+use crate::largest::root;
+use crate::refusals::Refusal;
+use crate::rows::{ORDER_COUNT, Row, is_order, is_system};
+use crate::spectrum::{LARGEST_LINE, LINE_COUNT};
 
 /// The five kinds, in the order of document 01's table.
 #[derive(Clone, Copy, Debug, PartialEq, Eq)]
@@ -31,11 +29,6 @@ impl Kind {
         Kind::InterharmonicGroup,
         Kind::InterharmonicCentredSubgroup,
     ];
-}
-
-/// Whether a system is 10 or 12.
-pub fn is_system(system: u64) -> bool {
-    system == 10 || system == 12
 }
 
 /// The lines of a kind, counted from N×h, each with its weight times 2.
@@ -66,27 +59,27 @@ pub fn weighted_lines(kind: Kind, system: u64, order: u64) -> Vec<(usize, u64)> 
 /// The sum is at most 24 × 2^59. Refused in this order: 1, 6, 4, 5.
 pub fn group_value(kind: Kind, system: u64, order: u64, lines: &[u64]) -> Result<u64, Refusal> {
     if !is_system(system) {
-        return Err(Refusal::System);
+        return Err(Refusal::UnknownSystem);
     }
-    if !(1..=ORDERS as u64).contains(&order) {
-        return Err(Refusal::Order);
+    if !is_order(order) {
+        return Err(Refusal::OrderOutOfRange);
     }
-    if lines.len() != LINES {
-        return Err(Refusal::LineCount);
+    if lines.len() != LINE_COUNT {
+        return Err(Refusal::WrongLineCount);
     }
-    if lines.iter().any(|&line| line > GREATEST_LINE) {
-        return Err(Refusal::LineRange);
+    if lines.iter().any(|&line| line > LARGEST_LINE) {
+        return Err(Refusal::LineTooLarge);
     }
     let group = weighted_lines(kind, system, order).into_iter();
-    Ok(whole_root(group.map(|(number, weight)| weight * lines[number]).sum()))
+    Ok(root(group.map(|(number, weight)| weight * lines[number]).sum()))
 }
 
-/// The values of one kind at the orders 1..40. Each is below 2^32, as its
-/// square is at most 24 × 2^59.
-pub fn group_values(kind: Kind, system: u64, lines: &[u64]) -> Result<[u32; ORDERS], Refusal> {
-    let mut values = [0; ORDERS];
+/// The row of one kind: its values at the orders 1..40. Each is below 2^32, as
+/// its square is at most 24 × 2^59. Refused in this order: 1, 4, 5.
+pub fn group_row(kind: Kind, system: u64, lines: &[u64]) -> Result<Row, Refusal> {
+    let mut values = [0; ORDER_COUNT];
     for (order, place) in (1..).zip(&mut values) {
         *place = group_value(kind, system, order, lines)? as u32;
     }
-    Ok(values)
+    Ok(Row { system, values })
 }

@@ -5,33 +5,33 @@
 #[derive(Clone, Copy, Debug, PartialEq, Eq)]
 pub enum Refusal {
     /// The system is neither 10 nor 12.
-    System = 1,
+    UnknownSystem = 1,
     /// Fewer than 2,048 samples from the start.
     ShortWindow = 2,
     /// A sample lies outside −131,071..131,071.
-    SampleRange = 3,
+    SampleOutOfRange = 3,
     /// The buffer of lines does not hold 512.
-    LineCount = 4,
+    WrongLineCount = 4,
     /// A line is above 2^59.
-    LineRange = 5,
-    /// The order is outside the kind's orders.
-    Order = 6,
+    LineTooLarge = 5,
+    /// The order is outside the orders of the call.
+    OrderOutOfRange = 6,
     /// The observation record is not sound.
     UnsoundRecord = 7,
     /// The row's system differs from the record's.
     OtherSystem = 8,
     /// The record holds 45,000 windows already.
-    FullRecord = 9,
+    RecordFull = 9,
     /// No window has come yet.
     NoWindow = 10,
     /// K is outside 1..2^28.
-    UnitsPerAmpere = 11,
+    ScaleOutOfRange = 11,
     /// The group of order 1 is 0.
     NoFundamental = 12,
     /// The text or number does not fit a column.
-    ColumnForm = 13,
+    NotAColumn = 13,
     /// The buffer has the wrong length.
-    BufferLength = 14,
+    WrongBufferLength = 14,
 }
 
 impl Refusal {

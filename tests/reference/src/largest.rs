@@ -4,7 +4,7 @@
 
 /// The largest number below 2^`bits` for which `holds` is true. The property
 /// must be true of 0 and, once false, stay false for all greater numbers.
-pub fn largest_where(bits: u32, holds: impl Fn(u64) -> bool) -> u64 {
+pub fn largest(bits: u32, holds: impl Fn(u64) -> bool) -> u64 {
     let mut found = 0;
     for bit in (0..bits).rev() {
         let candidate = found | 1 << bit;
@@ -16,21 +16,21 @@ pub fn largest_where(bits: u32, holds: impl Fn(u64) -> bool) -> u64 {
 }
 
 /// The whole part of the square root.
-pub fn whole_root(square: u64) -> u64 {
-    largest_where(32, |root| root * root <= square)
+pub fn root(square: u64) -> u64 {
+    largest(32, |whole| whole * whole <= square)
 }
 
 #[cfg(test)]
 mod tests {
-    use super::whole_root;
+    use super::root;
 
     #[test]
     fn root_is_the_whole_part() {
         let greatest = u64::from(u32::MAX);
-        for root in [0, 1, 2, 3, 1000, 65_535, 65_536, greatest - 1, greatest] {
-            assert_eq!(whole_root(root * root), root);
-            assert_eq!(whole_root(root * root + 2 * root), root);
+        for whole in [0, 1, 2, 3, 1000, 65_535, 65_536, greatest - 1, greatest] {
+            assert_eq!(root(whole * whole), whole);
+            assert_eq!(root(whole * whole + 2 * whole), whole);
         }
-        assert_eq!(whole_root(u64::MAX), greatest);
+        assert_eq!(root(u64::MAX), greatest);
     }
 }

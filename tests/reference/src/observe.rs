@@ -1,0 +1,66 @@
+//! From the samples of windows back to back to the record after them: a fresh
+//! record, and then for each window its spectrum, its row and add row
+//! (document 01, "From samples to spectrum" to "The observation record").
+
+use crate::groups::{Kind, group_row};
+use crate::observation::{Observation, add_row, fresh_record};
+use crate::refusals::Refusal;
+use crate::rows::Row;
+use crate::spectrum::{LINE_COUNT, WINDOW_LENGTH, lines_of, window_at};
+
+/// An observation under way: the record after some windows, and the last of
+/// them with its lines.
+pub struct Observing {
+    /// The record after the windows so far.
+    pub observation: Observation,
+    kind: Kind,
+    window: Vec<i32>,
+    lines: [u64; LINE_COUNT],
+}
+
+impl Observing {
+    /// No window yet. Refused: 1.
+    pub fn begin(system: u64, kind: Kind) -> Result<Observing, Refusal> {
+        let (observation, refusal) = fresh_record(system);
+        let (window, lines) = (Vec::new(), [0; LINE_COUNT]);
+        refusal.map_or(Ok(Observing { observation, kind, window, lines }), Err)
+    }
+
+    /// The last window's row of a kind.
+    pub fn row(&self, kind: Kind) -> Result<Row, Refusal> {
+        group_row(kind, self.observation.system, &self.lines)
+    }
+
+    /// Takes the window that begins at `start`. Refused in this order: 2, 3, 9. A
+    /// window equal to the one before it has that one's lines, which are then not
+    /// worked out again.
+    pub fn take(&mut self, recording: &[i32], start: usize) -> Result<(), Refusal> {
+        let window = window_at(recording, start)?;
+        if window != self.window {
+            self.lines = lines_of(window, 0)?;
+            self.window = window.to_vec();
+        }
+        let (observation, refusal) = add_row(self.observation.clone(), &self.row(self.kind)?);
+        self.observation = observation;
+        refusal.map_or(Ok(()), Err)
+    }
+}
+
+/// The record after so many windows back to back, the first at `start`, each
+/// with its row of the kind. Refused: 1, and then at the first window that gives
+/// one of them, in this order, 2, 3, 9.
+pub fn observe(
+    recording: &[i32],
+    start: usize,
+    windows: usize,
+    system: u64,
+    kind: Kind,
+) -> Result<Observation, Refusal> {
+    let mut observing = Observing::begin(system, kind)?;
+    for number in 0..windows {
+        // A place that no number of 64 bits has is past the end of every recording.
+        let place = start.saturating_add(number.saturating_mul(WINDOW_LENGTH));
+        observing.take(recording, place)?;
+    }
+    Ok(observing.observation)
+}
