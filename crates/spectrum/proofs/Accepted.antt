@@ -10,22 +10,22 @@ use lib.IntN.{ℤ}
 use lib.ListN.{length, length-take, length-drop}
 use Rattle.algebra.specs.Lists.{anyOf}
 use Rattle.refusals.specs.Numbers.{noRefusal, shortWindow, wrongLineCount, sampleOutOfRange}
-use Rattle.refusals.specs.Answers.{firstFault}
 use Rattle.refusals.proofs.Answers.{no-faults}
 use Rattle.spectrum.specs.Line.{windowLength, lineCount, lineLimit, windowAt}
 use Rattle.spectrum.specs.Spectrum.{outOfRange, windowChecks, spectrumRefusal, linesFromRefusal}
+use Rattle.spectrum.specs.Prepared.{windowRefusal}
 
 pub record Accepted (recording : List ℤ) (start : ℕ) (wrongCount : Bool) : Type 0 where
   pub whole-window : length (windowAt recording start) ≡ windowLength
   pub in-range : anyOf outOfRange (windowAt recording start) ≡ false
   pub right-count : wrongCount ≡ false
 
-pub windowChecks-accepted :
+pub window-accepted :
     (recording : List ℤ) (start : ℕ) (wrongCount : Bool) →
-    firstFault (windowChecks recording start wrongCount) ≡ noRefusal →
+    windowRefusal recording start wrongCount ≡ noRefusal →
     Accepted recording start wrongCount
-unfolding windowAt
-windowChecks-accepted recording start wrongCount passed =
+unfolding windowRefusal windowAt
+window-accepted recording start wrongCount passed =
     let no-fault = no-faults (windowChecks recording start wrongCount) refl passed in
     let enough : windowLength ≤ length recording - start = ltb-false _ _ (no-fault shortWindow) in
     record {
@@ -38,13 +38,13 @@ pub accepted :
     (recording : List ℤ) (start : ℕ) (buffer : List ℕ) →
     spectrumRefusal recording start buffer ≡ noRefusal →
     Accepted recording start (not (eqb (length buffer) lineCount))
-unfolding spectrumRefusal
-accepted recording start buffer = windowChecks-accepted recording start (not (eqb (length buffer) lineCount))
+unfolding spectrumRefusal windowRefusal
+accepted recording start buffer = window-accepted recording start (not (eqb (length buffer) lineCount))
 
 pub linesFrom-accepted :
     (recording : List ℤ) (start first : ℕ) (buffer : List ℕ) →
     linesFromRefusal recording start first buffer ≡ noRefusal →
     Accepted recording start (ltb lineLimit (first + length buffer))
-unfolding linesFromRefusal
+unfolding linesFromRefusal windowRefusal
 linesFrom-accepted recording start first buffer =
-    windowChecks-accepted recording start (ltb lineLimit (first + length buffer))
+    window-accepted recording start (ltb lineLimit (first + length buffer))

@@ -10,10 +10,9 @@ ghost use mathlib.Core.Bool.{false};
 ghost use mathlib.Core.Path.{_≡_};
 ghost use Prim.Native.Nat.{_+_, _≤_};
 ghost use lib.ListN.{length};
-ghost use Rattle.refusals.specs.Answers.{firstFault, unlessRefused};
-ghost use Rattle.spectrum.specs.Line.{lineLimit, windowAt, linesFrom};
-ghost use Rattle.spectrum.specs.Spectrum.{windowChecks, spectrumRefusal, spectrumExit, linesFromRefusal, linesFromExit};
-ghost use Rattle.spectrum.specs.Prepared.{Prepared};
+ghost use Rattle.spectrum.specs.Line.{lineLimit, linesFrom};
+ghost use Rattle.spectrum.specs.Spectrum.{spectrumRefusal, spectrumExit, linesFromRefusal, linesFromExit};
+ghost use Rattle.spectrum.specs.Prepared.{Prepared, windowRefusal, windowExit};
 use refusals::NO_REFUSAL;
 use refusals::SAMPLE_OUT_OF_RANGE;
 use refusals::SHORT_WINDOW;
@@ -52,8 +51,8 @@ fn answer_lines(
     lines: &mut [u64],
 ) -> u32
     requires { ⌜ («wrong_count» ≡ false → first + length (now lines) ≤ lineLimit) ⌝ }
-    ensures { λ r. ⌜ r ≡ firstFault (windowChecks (now (recording .entry)) start «wrong_count») ⌝ }
-    ensures { λ r. ⌜ now (lines .exit) ≡ unlessRefused r (linesFrom first (length (now (lines .entry))) (windowAt (now (recording .entry)) start)) (now (lines .entry)) ⌝ }
+    ensures { λ r. ⌜ r ≡ windowRefusal (now (recording .entry)) start «wrong_count» ⌝ }
+    ensures { λ _. ⌜ now (lines .exit) ≡ windowExit (now (recording .entry)) start «wrong_count» first (now (lines .entry)) ⌝ }
 {
     let window = window_at(recording, start);
     let refusal = fault_or(

@@ -1,5 +1,6 @@
 -- `spectrum::answer_lines` meets its contract. The row of checks is that of the definition, and where it finds no fault, the window and the buffer are what the lines need.
 use borrow.Author.Needs.{needs}
+use mathlib.Core.Bool.{Bool, cond}
 use mathlib.Core.List.{List}
 use mathlib.Core.Path.{_≡_, sym, _∙_}
 use Prim.Native.Nat.{ℕ, _-_, min}
@@ -7,12 +8,14 @@ use native.Mathlib.Omega.{arith}
 use lib.Dec.{ltb}
 use lib.IntN.{ℤ}
 use lib.ListN.{length, length-take, length-drop}
+use Rattle.algebra.specs.Lists.{anyOf}
 use Rattle.algebra.proofs.Tests.{ltb-same}
-use Rattle.refusals.specs.Answers.{firstFault}
+use Rattle.refusals.specs.Numbers.{noRefusal, shortWindow, wrongLineCount, sampleOutOfRange}
 use Rattle.refusals.proofs.Answers.{unlessRefused-accepted, unlessRefused-refused}
 use Rattle.spectrum.specs.Line.{windowLength, windowAt}
-use Rattle.spectrum.specs.Spectrum.{windowChecks}
-use Rattle.spectrum.proofs.Accepted.{Accepted, windowChecks-accepted}
+use Rattle.spectrum.specs.Spectrum.{outOfRange}
+use Rattle.spectrum.specs.Prepared.{windowRefusal, windowExit}
+use Rattle.spectrum.proofs.Accepted.{window-accepted}
 use Rattle.spectrum.proofs.answer_lines.Statement.{statement}
 use Rattle.spectrum.proofs.answer_lines.Tie as tie
 
@@ -23,27 +26,52 @@ short-test recording start =
     simp (length-take, length-drop)
     (ltb-same (min windowLength (length recording - start)) windowLength (length recording - start) windowLength (λ h. omega arith) (λ h. omega arith))
 
+-- the row of checks, from what each call of it answers
+row-of-checks :
+    (recording : List ℤ) (start : ℕ) (wrongCount : Bool) (window : List ℤ) (out : Bool) (first second third : ℕ) →
+    window ≡ windowAt recording start →
+    out ≡ anyOf outOfRange window →
+    third ≡ cond out sampleOutOfRange noRefusal →
+    second ≡ cond wrongCount wrongLineCount third →
+    first ≡ cond (ltb (length window) windowLength) shortWindow second →
+    first ≡ windowRefusal recording start wrongCount
+unfolding windowRefusal
+row-of-checks recording start wrongCount window out first second third w o t s f =
+    rw (f, s, t, o, w, short-test recording start)
+
 -- the call's start, from where its checks are done
 abbrev start-of : tie.After-fault-or3 → tie.Start
 start-of c = c .before .before .before .before .before .before
 
 the-refusal : (c : tie.After-fault-or3) →
     let a = start-of c .args in
-    c .fault-or3 .result ≡ firstFault (windowChecks (a .recording .now) (a .start) (a .wrong-count))
-the-refusal c = cc (short-test (start-of c .args .recording .now) (start-of c .args .start))
+    c .fault-or3 .result ≡ windowRefusal (a .recording .now) (a .start) (a .wrong-count)
+the-refusal c =
+    let third = c .before .before in
+    let tested = third .before in
+    let lent = tested .before in
+    let a = start-of c .args in
+    row-of-checks (a .recording .now) (a .start) (a .wrong-count) (lent .window-at .result .now) (tested .any-out-of-range .result)
+    (c .fault-or3 .result)
+    (c .before .fault-or2 .result)
+    (third .fault-or .result)
+    (lent .window-at .ensures)
+    (tested .any-out-of-range .ensures)
+    (third .fault-or .ensures)
+    (c .before .fault-or2 .ensures)
+    (c .fault-or3 .ensures)
 
 -- where nothing is refused
 passed : (c : tie.Then1) →
     let a = start-of (c .before) .args in
-    Accepted (a .recording .now) (a .start) (a .wrong-count)
-passed c =
-    let a = start-of (c .before) .args in
-    windowChecks-accepted (a .recording .now) (a .start) (a .wrong-count) (rw (the-refusal (c .before)) at (c .if1 .taken))
+    windowRefusal (a .recording .now) (a .start) (a .wrong-count) ≡ noRefusal
+passed c = sym (the-refusal (c .before)) ∙ c .if1 .taken
 
 fill-lines-requires : tie.Need-fill-lines-requires
 fill-lines-requires c κs =
     let e = c .before .before .before .before in
-    let call = passed e in
+    let a = start-of (e .before) .args in
+    let call = window-accepted (a .recording .now) (a .start) (a .wrong-count) (passed e) in
     let is-window = e .before .before .before .before .before .window-at .ensures in (
       record {
         whole = rw is-window (call .whole-window);
@@ -54,16 +82,20 @@ fill-lines-requires c κs =
     )
 
 returns : tie.Need-returns
+unfolding windowExit
 returns c =
     let called = c .before .before in
     let e = called .before .before .before .before .before in
     let is-window = e .before .before .before .before .before .window-at .ensures in (
       the-refusal (e .before),
-      (rw is-window at (called .fill-lines .ensures)) ∙ sym (unlessRefused-accepted _ _ _ (e .if1 .taken)),
+      (rw is-window at (called .fill-lines .ensures)) ∙ sym (unlessRefused-accepted _ _ _ (passed e)),
     )
 
 returns-2 : tie.Need-returns-2
-returns-2 c = (the-refusal (c .before), sym (unlessRefused-refused _ _ _ (c .if1 .left)))
+unfolding windowExit
+returns-2 c =
+    let refusal = the-refusal (c .before) in
+    (refusal, sym (unlessRefused-refused _ _ _ (λ none. c .if1 .left (refusal ∙ none))))
 
 pub answer-lines-spec : {M : Type 1} → statement M
 answer-lines-spec =
