@@ -37,12 +37,12 @@ list-holds kind system known rows worked =
           omega (arith, exact-book-near groups-near _ kind system order positive le rows book .smoothed-near .within);
       smoothed-high = λ order positive le book.
           omega (arith, exact-book-near groups-near _ kind system order positive le rows book .smoothed-near .within);
-      verdicts = λ order scale asked.
-          let call = accepted (after kind system rows) order scale asked in
-          let positive : 0 < order = omega arith in
-          given-verdict kind system rows order scale
-          (λ side. exact-book-near groups-near side kind system order positive (call .order-le) rows)
-          (books-kept kind system known rows worked order positive (call .order-le))
+      verdicts = λ q asked.
+          let call = accepted (after kind system rows) q asked in
+          let positive : 0 < q .order = omega arith in
+          given-verdict kind system rows q
+          (λ side. exact-book-near groups-near side kind system (q .order) positive (call .order-le) rows)
+          (books-kept kind system known rows worked (q .order) positive (call .order-le))
           asked;
     }
 

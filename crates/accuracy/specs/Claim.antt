@@ -20,10 +20,12 @@ use Rattle.observation.specs.Smoothing.{reported, smoothedMargin}
 use Rattle.observation.specs.Calls.{freshAnswer, bookAt}
 use Rattle.observation.specs.CallList.{recordAfter}
 use Rattle.observation.specs.BookCalls.{EachAccepted, Fed, bookAfter, ownValues}
+use Rattle.verdict.specs.declared.Question.{Question}
 use Rattle.verdict.specs.declared.Verdict.{Verdict}
 use Rattle.verdict.specs.declared.Verdict.the-variants.{Within, Close, Over}
-use Rattle.verdict.specs.declared.Answered.the-variants.{Given}
-use Rattle.verdict.specs.Tests.{limitInUnits, peakLimitInUnits, Touches}
+use Rattle.verdict.specs.declared.VerdictAnswer.the-variants.{Given}
+use Rattle.verdict.specs.Limit.{limitInUnits, peakLimitInUnits}
+use Rattle.verdict.specs.Tests.{Touches}
 use Rattle.verdict.specs.Call.{verdictRefusal, verdictAnswer, orderNumber}
 use Rattle.observation.specs.Average.{average}
 use Rattle.accuracy.specs.Distance.{InRange, GroupsNear}
@@ -72,24 +74,24 @@ module _ (kind : Kind) (system : ℕ) (rows : List Row) where
   state book = bookAfter exact system (emptyBook exact) (book .calls)
 
   -- what each verdict claims of the exact books, or of the reported one
-  unfoldable pub Keeps : ℕ → ℕ → Verdict → Type 0
-  Keeps order scale (Within h) =
-      (book : LBook order) →
-      (average (state book .sum) (state book .count) ≤ᶠ limitInUnits order scale) ×
-      (state book .peak ≤ᶠ peakLimitInUnits order scale)
-  Keeps order scale (Over h) =
-      ((book : UBook order) → limitInUnits order scale <ᶠ average (state book .sum) (state book .count)) ⊎
-      ((book : UBook order) → peakLimitInUnits order scale <ᶠ state book .peak)
-  Keeps order scale (Close h) =
-      Touches (average (whole (reportedBook order .sum)) (reportedBook order .count)) (limitInUnits order scale) ⊎
-      Touches (whole (reportedBook order .peak)) (peakLimitInUnits order scale)
+  unfoldable pub Keeps : Question → Verdict → Type 0
+  Keeps q (Within h) =
+      (book : LBook (q .order)) →
+      (average (state book .sum) (state book .count) ≤ᶠ limitInUnits q) ×
+      (state book .peak ≤ᶠ peakLimitInUnits q)
+  Keeps q (Over h) =
+      ((book : UBook (q .order)) → limitInUnits q <ᶠ average (state book .sum) (state book .count)) ⊎
+      ((book : UBook (q .order)) → peakLimitInUnits q <ᶠ state book .peak)
+  Keeps q (Close h) =
+      Touches (average (whole (reportedBook (q .order) .sum)) (reportedBook (q .order) .count)) (limitInUnits q) ⊎
+      Touches (whole (reportedBook (q .order) .peak)) (peakLimitInUnits q)
 
   -- a verdict is given, for the order that was asked, and it keeps its claim
-  pub record GivenVerdict (order scale : ℕ) : Type 0 where
+  pub record GivenVerdict (q : Question) : Type 0 where
     pub verdict : Verdict
-    pub given : verdictAnswer after order scale ≡ Given verdict
-    pub of-order : orderNumber verdict ≡ order
-    pub kept : Keeps order scale verdict
+    pub given : verdictAnswer after q ≡ Given verdict
+    pub of-order : orderNumber verdict ≡ q .order
+    pub kept : Keeps q verdict
 
   -- what holds after a list of calls, and of the verdicts then asked
   pub record ListHolds : Type 0 where
@@ -102,7 +104,7 @@ module _ (kind : Kind) (system : ℕ) (rows : List Row) where
     pub smoothed-high :
         (order : ℕ) → 0 < order → order ≤ orderCount → (book : UBook order) → whole (reportedBook order .smoothed) ≤ᶠ state book .smoothed +ᶠ whole smoothedMargin
     -- for every order and K that is not refused one of the three verdicts is given and keeps its claim
-    pub verdicts : (order scale : ℕ) → verdictRefusal after order scale ≡ noRefusal → GivenVerdict order scale
+    pub verdicts : (q : Question) → verdictRefusal after q ≡ noRefusal → GivenVerdict q
 
 -- Demand 3: the distance of every group value, and for every kind and both systems the claim about every list of calls whose accepted rows are worked from samples.
 pub record Demand3Holds : Type 0 where

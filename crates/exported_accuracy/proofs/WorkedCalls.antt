@@ -14,6 +14,7 @@ use Rattle.rows.specs.Orders.{orderCount}
 use Rattle.accuracy.specs.Distance.{InRange}
 use Rattle.accuracy.proofs.WorkedExample.{workedRow, refusedRow, workedRows, worked-rows}
 use Rattle.kifsang.specs.Words.{recordWords}
+use Rattle.verdict.specs.Question.{asked}
 use Rattle.exported_accuracy.specs.Calls.{Asked, freshRecord, addRow, askVerdict, Call, Begun, wordsAfter, withCall, listAsked, listAtExit, listAfter}
 use Rattle.exported_accuracy.specs.Claim.{WordsHold}
 use Rattle.exported_accuracy.proofs.ExportedDemand3.{exported-demand3}
@@ -36,7 +37,7 @@ module _ (kind : Kind) (window next : List ℤ) where
       -- another system, 39 values, a verdict, a fresh record of no system and 121 words change nothing
       lendingAll (addRow 12 (replicate orderCount 1)) ∷
       lendingAll (addRow 10 (replicate 39 1)) ∷
-      lendingAll (askVerdict 3 1000000) ∷
+      lendingAll (askVerdict (asked 3 1000000)) ∷
       lendingAll (freshRecord 0) ∷
       record { lent = 121; asked = freshRecord 12 } ∷
       lendingAll (addRow 10 (groupValues kind 10 (linesOf next))) ∷

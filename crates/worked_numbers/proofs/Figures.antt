@@ -22,8 +22,8 @@ use Rattle.observation.specs.Smoothing.{reported}
 use Rattle.observation.specs.Calls.{bookAt}
 use Rattle.verdict.specs.declared.Verdict.{Verdict}
 use Rattle.verdict.specs.declared.Verdict.the-variants.{Within, Close, Over}
-use Rattle.verdict.specs.Limit.{ownFigures, figureIn, limitOf, overOrder}
-use Rattle.verdict.specs.Tests.{limitInUnits, peakLimitInUnits}
+use Rattle.verdict.specs.Question.{asked}
+use Rattle.verdict.specs.Limit.{ownFigures, figureIn, limitOf, overOrder, limitInUnits, peakLimitInUnits}
 use Rattle.accuracy.specs.Distance.{InRange, GroupsNear}
 use Rattle.accuracy.specs.Claim.{WorkedList, LBook, UBook, after, reportedBook, state, Keeps}
 use Rattle.accuracy.proofs.Demand3.{demand3}
@@ -130,7 +130,7 @@ module _ (kind : Kind) (system : ℕ) (rows : List Row) (k : ℕ) where
   abbrev NumberSays : ℕ → Type 0
   NumberSays number = ((number ≡ 1) × SaysWithin) ⊎ (((number ≡ 2) × SaysClose) ⊎ ((number ≡ 3) × SaysOver))
 
-  verdict-number-says : (verdict : Verdict) → Keeps kind system rows 3 k verdict → NumberSays (verdictNumber verdict)
+  verdict-number-says : (verdict : Verdict) → Keeps kind system rows (asked 3 k) verdict → NumberSays (verdictNumber verdict)
   unfolding Keeps verdictNumber limitInUnits peakLimitInUnits limitOf figureIn ownFigures overOrder whole scale divide _+ᶠ_
   verdict-number-says (Within h) keeps = inl (refl, λ l. (omega (arith, keeps l .0), omega (arith, keeps l .1)))
   verdict-number-says (Close h) keeps =
@@ -163,8 +163,8 @@ module _
     -- what the number of a verdict of order 3 tells, whatever it was before the call
     words-verdict-number :
         (k before : ℕ) →
-        verdictCallRefusal (wordsAfter words calls) 3 k ≡ 0 →
-        NumberSays kind system rows k (verdictCallExit (wordsAfter words calls) 3 k before)
-    words-verdict-number k before asked =
-        let given = holds .verdicts 3 k asked in
+        verdictCallRefusal (wordsAfter words calls) (asked 3 k) ≡ 0 →
+        NumberSays kind system rows k (verdictCallExit (wordsAfter words calls) (asked 3 k) before)
+    words-verdict-number k before passed =
+        let given = holds .verdicts (asked 3 k) passed in
         rw (given .number before) (verdict-number-says kind system rows k (given .verdict) (given .kept))
