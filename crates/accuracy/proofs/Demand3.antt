@@ -37,12 +37,12 @@ module _ (kind : Kind) (list : CallList) (known : isSystem (list .system) ≡ tr
             omega (arith, order-book-near _ kind list order positive le book .smoothed-near .within);
         smoothed-high = λ order positive le book.
             omega (arith, order-book-near _ kind list order positive le book .smoothed-near .within);
-        verdicts = λ order scale asked.
-            let call = accepted (after list) order scale asked in
-            let positive : 0 < order = omega arith in
-            given-verdict kind list order scale
-            (λ side. order-book-near side kind list order positive (call .order-le))
-            (books-kept order positive (call .order-le))
+        verdicts = λ q asked.
+            let call = accepted (after list) q asked in
+            let positive : 0 < q .order = omega arith in
+            given-verdict kind list q
+            (λ side. order-book-near side kind list (q .order) positive (call .order-le))
+            (books-kept (q .order) positive (call .order-le))
             asked;
       }
 

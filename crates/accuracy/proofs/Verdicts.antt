@@ -13,9 +13,10 @@ use Rattle.observation.specs.Book.{Book}
 use Rattle.observation.specs.Smoothing.{reported, smoothedMargin}
 use Rattle.observation.specs.Average.{averageOf, peakOf}
 use Rattle.observation.specs.Calls.{bookAt}
+use Rattle.verdict.specs.declared.Question.{Question}
 use Rattle.verdict.specs.declared.Verdict.{Verdict}
 use Rattle.verdict.specs.declared.Verdict.the-variants.{Within, Close, Over}
-use Rattle.verdict.specs.Tests.{limitInUnits, peakLimitInUnits}
+use Rattle.verdict.specs.Limit.{limitInUnits, peakLimitInUnits}
 use Rattle.verdict.specs.Call.{verdictRefusal, verdictOf}
 use Rattle.verdict.proofs.Verdicts.{Says, verdict-says, verdict-order, accepted-given}
 use Rattle.accuracy.specs.ExactBook.{exact}
@@ -32,33 +33,33 @@ average-near kept book exactBook near =
     rw (near .same-count)
     (near-divide (max (book .count) 1) kept _ (near-weaken (mul-le-mul-right kept (omega arith)) (near .sum-near)))
 
-module _ (kind : Kind) (list : CallList) (order scale : ℕ) where
+module _ (kind : Kind) (list : CallList) (q : Question) where
   -- the limits of the two tests
   abbrev limit : Fraction
-  limit = limitInUnits order scale
+  limit = limitInUnits q
 
   abbrev peakLimit : Fraction
-  peakLimit = peakLimitInUnits order scale
+  peakLimit = peakLimitInUnits q
 
   -- "every" stands inside each side of over: one u book that is not over on the average shows that every u book is over on the peak
   over-every-peak :
       (h : ℕ) →
-      Keeps kind list order scale (Over h) →
-      (book other : UBook kind list order) →
+      Keeps kind list q (Over h) →
+      (book other : UBook kind list (q .order)) →
       exactAverage (state list book) ≤ᶠ limit →
-      PeakExceeds order scale (state list other)
+      PeakExceeds q (state list other)
   unfolding Keeps
   over-every-peak h keeps book other le = ⊎-elim (λ over. absurd (omega (arith, over book))) (λ over. over other) keeps
 
   -- what a verdict says of a book's average and peak
   abbrev SaysOf : Book reported → Verdict → Type 0
-  SaysOf book = Says (reportedAverage book) limit (whole (book .peak)) peakLimit
+  SaysOf book = Says q (reportedAverage book) (whole (book .peak))
 
   module _
-      (near : (side : Side) (book : ExactBook list (Feeds side kind order)) →
-      BookNear side smoothedMargin (reportedBook list order) (state list book))
+      (near : (side : Side) (book : ExactBook list (Feeds side kind (q .order))) →
+      BookNear side smoothedMargin (reportedBook list (q .order)) (state list book))
     where
-      says-keeps : (verdict : Verdict) → SaysOf (reportedBook list order) verdict → Keeps kind list order scale verdict
+      says-keeps : (verdict : Verdict) → SaysOf (reportedBook list (q .order)) verdict → Keeps kind list q verdict
       unfolding Keeps
       says-keeps (Within h) says = λ book. (
         near-le-bound limit (average-near _ _ _ (near _ book)) (says .0),
@@ -73,15 +74,15 @@ module _ (kind : Kind) (list : CallList) (order scale : ℕ) where
 
       -- the record after the list holds the reported book
       pub given-verdict :
-          bookAt (after list) (order - 1) ≡ reportedBook list order →
-          verdictRefusal (after list) order scale ≡ noRefusal →
-          GivenVerdict kind list order scale
+          bookAt (after list) (q .order - 1) ≡ reportedBook list (q .order) →
+          verdictRefusal (after list) q ≡ noRefusal →
+          GivenVerdict kind list q
       unfolding averageOf peakOf bookAt
       given-verdict same asked =
           let o = after list in
           record {
-            verdict = verdictOf o order scale;
-            given = accepted-given o order scale asked;
-            of-order = verdict-order o order scale;
-            kept = says-keeps _ (subst (λ book. SaysOf book (verdictOf o order scale)) same (verdict-says o order scale));
+            verdict = verdictOf o q;
+            given = accepted-given o q asked;
+            of-order = verdict-order o q;
+            kept = says-keeps _ (subst (λ book. SaysOf book (verdictOf o q)) same (verdict-says o q));
           }

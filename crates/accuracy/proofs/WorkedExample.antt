@@ -6,7 +6,7 @@ use Prim.Native.Nat.{ℕ, _-_}
 use native.Mathlib.Omega.{arith}
 use lib.IntN.{ℤ}
 use lib.ListN.{replicate}
-use Rattle.algebra.specs.Fraction.{whole, scale, divide, _+ᶠ_}
+use Rattle.algebra.specs.Fraction.{whole, scale, divide}
 use Rattle.algebra.specs.Largest.{largest}
 use Rattle.algebra.specs.Lists.{tabulate, anyOf}
 use Rattle.algebra.specs.Rounding.{nearest}
@@ -28,8 +28,9 @@ use Rattle.observation.specs.Calls.{rowChecks, bookAt}
 use Rattle.observation.specs.BookCalls.{accepts, EachAccepted, bookCall, bookAfter, ownValues}
 use Rattle.verdict.specs.declared.Verdict.{Verdict}
 use Rattle.verdict.specs.declared.Verdict.the-variants.{Within, Close, Over}
-use Rattle.verdict.specs.Limit.{ownFigures, figureIn, limitOf, overOrder}
-use Rattle.verdict.specs.Tests.{limitInUnits, peakLimitInUnits, isWithin, isOver}
+use Rattle.verdict.specs.Question.{asked}
+use Rattle.verdict.specs.Limit.{ownFigures, figureIn, limitOf, overOrder, limitInUnits, peakLimitInUnits}
+use Rattle.verdict.specs.Tests.{parts, raised, atMost, isWithin, isOver}
 use Rattle.verdict.specs.Call.{combined, verdictOf}
 use Rattle.observation.specs.Average.{averageOf, peakOf}
 use Rattle.accuracy.specs.Distance.{EveryOrder, InRange, valueOf}
@@ -97,11 +98,11 @@ pulse-book = example-books HarmonicGroup pulse pulse pulse-window pulse-window 3
 
 -- 2.3 × K is 8930.9, 8933.2, 8953.9 and 8956.2, and 150 % of each is above the peak with the margin
 pulse-verdicts :
-    (verdictOf pulsed 3 3883 ≡ Over 3) ×
-    (verdictOf pulsed 3 3884 ≡ Close 3) ×
-    (verdictOf pulsed 3 3893 ≡ Close 3) ×
-    (verdictOf pulsed 3 3894 ≡ Within 3)
-unfolding verdictOf averageOf peakOf bookAt combined isOver isWithin limitInUnits peakLimitInUnits limitOf figureIn ownFigures overOrder whole _+ᶠ_ scale divide
+    (verdictOf pulsed (asked 3 3883) ≡ Over 3) ×
+    (verdictOf pulsed (asked 3 3884) ≡ Close 3) ×
+    (verdictOf pulsed (asked 3 3893) ≡ Close 3) ×
+    (verdictOf pulsed (asked 3 3894) ≡ Within 3)
+unfolding verdictOf averageOf peakOf bookAt combined raised atMost isOver isWithin limitInUnits peakLimitInUnits limitOf figureIn ownFigures overOrder whole scale divide
 pulse-verdicts =
     subst
     (λ (book : Book reported).
@@ -110,10 +111,10 @@ pulse-verdicts =
     (refl, refl, refl, refl)
   where
     judged : Book reported → ℕ → Verdict
-    judged book unitsPerAmpere =
+    judged book scale =
         combined
-        (reportedAverage book)
-        (limitInUnits 3 unitsPerAmpere)
-        (whole (book .peak))
-        (peakLimitInUnits 3 unitsPerAmpere)
+        (parts (reportedAverage book))
+        (parts (limitInUnits (asked 3 scale)))
+        (parts (whole (book .peak)))
+        (parts (peakLimitInUnits (asked 3 scale)))
         3

@@ -17,9 +17,10 @@ use Rattle.observation.specs.Book.{Book}
 use Rattle.observation.specs.Smoothing.{reported, smoothedMargin}
 use Rattle.observation.specs.Calls.{bookAt}
 use Rattle.observation.specs.BookCalls.{EachAccepted, Fed, valueAt}
+use Rattle.verdict.specs.declared.Question.{Question}
 use Rattle.verdict.specs.declared.Verdict.{Verdict}
 use Rattle.verdict.specs.declared.Verdict.the-variants.{Within, Close, Over}
-use Rattle.verdict.specs.declared.Answered.the-variants.{Given}
+use Rattle.verdict.specs.declared.VerdictAnswer.the-variants.{Given}
 use Rattle.verdict.specs.Call.{verdictRefusal, verdictAnswer, orderNumber}
 use Rattle.accuracy.specs.Distance.{EveryOrder, InRange, GroupsNear}
 use Rattle.accuracy.specs.ExactBook.{exact}
@@ -56,20 +57,20 @@ module _ (kind : Kind) (list : CallList) where
   UBook order = ExactBook list (Feeds upper kind order)
 
   -- what each verdict claims of the exact books, or of the reported one
-  unfoldable pub Keeps : ℕ → ℕ → Verdict → Type 0
-  Keeps order scale (Within h) = (book : LBook order) → Passes order scale (state list book)
-  Keeps order scale (Over h) =
-      ((book : UBook order) → AverageExceeds order scale (state list book)) ⊎
-      ((book : UBook order) → PeakExceeds order scale (state list book))
-  Keeps order scale (Close h) =
-      AverageTouches order scale (reportedBook list order) ⊎ PeakTouches order scale (reportedBook list order)
+  unfoldable pub Keeps : Question → Verdict → Type 0
+  Keeps q (Within h) = (book : LBook (q .order)) → Passes q (state list book)
+  Keeps q (Over h) =
+      ((book : UBook (q .order)) → AverageExceeds q (state list book)) ⊎
+      ((book : UBook (q .order)) → PeakExceeds q (state list book))
+  Keeps q (Close h) =
+      AverageTouches q (reportedBook list (q .order)) ⊎ PeakTouches q (reportedBook list (q .order))
 
   -- a verdict is given, for the order that was asked, and it keeps its claim
-  pub record GivenVerdict (order scale : ℕ) : Type 0 where
+  pub record GivenVerdict (q : Question) : Type 0 where
     pub verdict : Verdict
-    pub given : verdictAnswer (after list) order scale ≡ Given verdict
-    pub of-order : orderNumber verdict ≡ order
-    pub kept : Keeps order scale verdict
+    pub given : verdictAnswer (after list) q ≡ Given verdict
+    pub of-order : orderNumber verdict ≡ q .order
+    pub kept : Keeps q verdict
 
   -- what holds after a list of calls, and of the verdicts then asked
   pub record ListHolds : Type 0 where
@@ -82,7 +83,7 @@ module _ (kind : Kind) (list : CallList) where
     pub smoothed-high : EveryOrder (λ order.
         (book : UBook order) → whole (reportedBook list order .smoothed) ≤ᶠ state list book .smoothed +ᶠ whole smoothedMargin)
     -- for every order and K that is not refused one of the three verdicts is given and keeps its claim
-    pub verdicts : (order scale : ℕ) → verdictRefusal (after list) order scale ≡ noRefusal → GivenVerdict order scale
+    pub verdicts : (q : Question) → verdictRefusal (after list) q ≡ noRefusal → GivenVerdict q
 
 -- Demand 3: the distance of every group value, and for every kind and both systems the claim about every list of calls whose accepted rows are worked from samples.
 pub record Demand3Holds : Type 0 where

@@ -14,6 +14,7 @@ use Rattle.observation.specs.Book.{Book}
 use Rattle.observation.specs.Smoothing.{reported}
 use Rattle.observation.specs.declared.Observation.{Observation}
 use Rattle.observation.specs.Calls.{bookAt}
+use Rattle.verdict.specs.declared.Question.{Question}
 use Rattle.verdict.specs.Call.{verdictRefusal}
 use Rattle.accuracy.specs.Distance.{EveryOrder}
 use Rattle.accuracy.specs.CallList.{CallList, after}
@@ -59,17 +60,17 @@ module _
         ap (λ (book : Book reported). book .smoothed) (claimed .same-books order positive le))
 
     called-verdict :
-        (order unitsPerAmpere : ℕ) →
-        verdictCallRefusal words order unitsPerAmpere ≡ noRefusal →
-        CalledVerdict kind list words order unitsPerAmpere
+        (q : Question) →
+        verdictCallRefusal words q ≡ noRefusal →
+        CalledVerdict kind list words q
     unfolding verdictCallRefusal verdictCallExit
-    called-verdict order unitsPerAmpere asked =
+    called-verdict q asked =
         let o = after list in
         let held = record-held list words follows in
-        let passed : verdictRefusal o order unitsPerAmpere ≡ noRefusal =
+        let passed : verdictRefusal o q ≡ noRefusal =
         own-first-none (firstFault (wordCountCheck recordWords words ∷ [])) _ (rw held at asked) in
-        let given = claimed .verdicts order unitsPerAmpere passed in
-        let same = given-case o order unitsPerAmpere (given .verdict) (given .given) .1 in
+        let given = claimed .verdicts q passed in
+        let same = given-case o q (given .verdict) (given .given) .1 in
         record {
           verdict = given .verdict;
           of-order = given .of-order;

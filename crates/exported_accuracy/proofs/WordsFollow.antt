@@ -173,14 +173,14 @@ asked-follows :
 unfolding leftBy listAsked
 asked-follows (freshRecord system) begun words follows = fresh-follows system begun words follows
 asked-follows (addRow system values) begun words follows = add-row-follows system values begun words follows
-asked-follows (askVerdict order unitsPerAmpere) begun words follows = follows
+asked-follows (askVerdict q) begun words follows = follows
 
 -- other than 122 words stay as they were
 left-alone : (words : List ℕ) (asked : Asked) → (length words ≡ recordWords → ⊥) → leftBy words asked ≡ words
 unfolding leftBy freshCallExit freshCallRefusal addRowCallExit addRowCallRefusal
 left-alone words (freshRecord system) other = rw (ne-eqb (length words) recordWords other)
 left-alone words (addRow system values) other = rw (ne-eqb (length words) recordWords other)
-left-alone words (askVerdict order unitsPerAmpere) other = refl
+left-alone words (askVerdict q) other = refl
 
 call-follows :
     (call : Call) (begun : Option CallList) (words : List ℕ) →

@@ -13,6 +13,7 @@ use Rattle.rows.specs.Systems.{isSystem}
 use Rattle.rows.specs.Orders.{orderCount}
 use Rattle.accuracy.specs.Distance.{InRange}
 use Rattle.accuracy.proofs.WorkedExample.{workedRow, refusedRow, exampleList, example-worked}
+use Rattle.verdict.specs.Question.{asked}
 use Rattle.kifsang.specs.Words.{recordWords}
 use Rattle.exported_accuracy.specs.Calls.{Asked, freshRecord, addRow, askVerdict, Call, wordsAfter, withCall, listAsked, listAtExit, listAfter}
 use Rattle.exported_accuracy.specs.Claim.{WordsHold}
@@ -20,7 +21,7 @@ use Rattle.exported_accuracy.proofs.ExportedDemand3.{exported-demand3}
 
 -- a call that lends all its words
 abbrev lendingAll : Asked → Call
-lendingAll asked = record { lent = 122; asked = asked }
+lendingAll call = record { lent = 122; asked = call }
 
 module _ (kind : Kind) (window next : List ℤ) where
   calls : List Call
@@ -36,7 +37,7 @@ module _ (kind : Kind) (window next : List ℤ) where
       -- another system, 39 values, a verdict, a fresh record of no system and 121 words change nothing
       lendingAll (addRow 12 (replicate orderCount 1)) ∷
       lendingAll (addRow 10 (replicate 39 1)) ∷
-      lendingAll (askVerdict 3 1000000) ∷
+      lendingAll (askVerdict (asked 3 1000000)) ∷
       lendingAll (freshRecord 0) ∷
       record { lent = 121; asked = freshRecord 12 } ∷
       lendingAll (addRow 10 (groupValues kind 10 (linesOf next))) ∷

@@ -8,6 +8,7 @@ use lib.ListN.{length, take, drop}
 use Rattle.rows.specs.Systems.{isSystem}
 use Rattle.rows.specs.Orders.{orderCount}
 use Rattle.rows.specs.declared.Row.{Row}
+use Rattle.verdict.specs.declared.Question.{Question}
 use Rattle.accuracy.specs.CallList.{CallList}
 use Rattle.kifsang.specs.Words.{recordWords}
 use Rattle.kifsang.specs.RecordCalls.{lentRow, freshCallExit, addRowCallExit}
@@ -18,14 +19,14 @@ pub data Asked : Type 0 where
   freshRecord : ℕ → Asked
   -- kifsang_add_row with a system and values
   addRow : ℕ → List ℕ → Asked
-  -- kifsang_verdict with an order and units per ampere
-  askVerdict : ℕ → ℕ → Asked
+  -- kifsang_verdict with what is asked
+  askVerdict : Question → Asked
 
 -- what some words hold at exit, by the contract of each function; a verdict only reads them
 unfoldable pub leftBy : List ℕ → Asked → List ℕ
 leftBy words (freshRecord system) = freshCallExit system words
 leftBy words (addRow system values) = addRowCallExit words system values
-leftBy words (askVerdict order unitsPerAmpere) = words
+leftBy words (askVerdict q) = words
 
 -- a call lends so many of the caller's words from the first on, all of them where there are fewer
 pub record Call : Type 0 where
@@ -51,7 +52,7 @@ unfoldable pub listAsked : Option CallList → Asked → Option CallList
 listAsked begun (freshRecord system) = cond (isSystem system) (some (record { system = system; rows = [] })) begun
 listAsked begun (addRow system values) =
     cond (eqb (length values) orderCount) (withCall begun (lentRow system values)) begun
-listAsked begun (askVerdict order unitsPerAmpere) = begun
+listAsked begun (askVerdict q) = begun
 
 -- a call that lends fewer than 122 words is refused before it looks at the record
 unfoldable pub listAtExit : Option CallList → Call → Option CallList

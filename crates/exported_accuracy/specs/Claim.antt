@@ -10,6 +10,7 @@ use Rattle.refusals.specs.Numbers.{noRefusal}
 use Rattle.spectrum.specs.Line.{windowAt}
 use Rattle.spectrum.specs.Spectrum.{spectrumRefusal, spectrumExit}
 use Rattle.groups.specs.declared.Kind.{Kind}
+use Rattle.verdict.specs.declared.Question.{Question}
 use Rattle.verdict.specs.declared.Verdict.{Verdict}
 use Rattle.observation.specs.Smoothing.{smoothedMargin}
 use Rattle.verdict.specs.Call.{orderNumber}
@@ -27,11 +28,11 @@ abbrev pub smoothedWord : List ℕ → ℕ → ℕ
 smoothedWord words order = getD words (smoothedPlace + (order - 1)) 0
 
 -- a verdict call that is not refused leaves the number of a verdict of the order that keeps its claim, whatever the number was before
-pub record CalledVerdict (kind : Kind) (list : CallList) (words : List ℕ) (order unitsPerAmpere : ℕ) : Type 0 where
+pub record CalledVerdict (kind : Kind) (list : CallList) (words : List ℕ) (q : Question) : Type 0 where
   pub verdict : Verdict
-  pub of-order : orderNumber verdict ≡ order
-  pub number : (before : ℕ) → verdictCallExit words order unitsPerAmpere before ≡ verdictNumber verdict
-  pub kept : Keeps kind list order unitsPerAmpere verdict
+  pub of-order : orderNumber verdict ≡ q .order
+  pub number : (before : ℕ) → verdictCallExit words q before ≡ verdictNumber verdict
+  pub kept : Keeps kind list q verdict
 
 -- what some words hold after a list of document 01
 pub record WordsHold (kind : Kind) (list : CallList) (words : List ℕ) : Type 0 where
@@ -44,9 +45,9 @@ pub record WordsHold (kind : Kind) (list : CallList) (words : List ℕ) : Type 0
   pub smoothed-high : EveryOrder (λ order.
       (book : UBook kind list order) → whole (smoothedWord words order) ≤ᶠ state list book .smoothed +ᶠ whole smoothedMargin)
   pub verdicts :
-      (order unitsPerAmpere : ℕ) →
-      verdictCallRefusal words order unitsPerAmpere ≡ noRefusal →
-      CalledVerdict kind list words order unitsPerAmpere
+      (q : Question) →
+      verdictCallRefusal words q ≡ noRefusal →
+      CalledVerdict kind list words q
 
 -- kifsang_spectrum of a recording, and then a call for its lines, neither refused
 module _ (recording : List ℤ) (start : ℕ) (buffer : List ℕ) (number system : ℕ) where

@@ -5,6 +5,7 @@ use Rattle.refusals.specs.Answers.{unlessRefused}
 use Rattle.rows.specs.Orders.{orderCount}
 use Rattle.rows.specs.declared.Row.{Row}
 use Rattle.observation.specs.Calls.{emptyRecord, freshRefusal, withRow, addRowRefusal}
+use Rattle.verdict.specs.declared.Question.{Question}
 use Rattle.verdict.specs.declared.Verdict.{Verdict}
 use Rattle.verdict.specs.declared.Verdict.the-variants.{Within, Close, Over}
 use Rattle.verdict.specs.Call.{verdictOf, verdictRefusal}
@@ -45,14 +46,14 @@ verdictNumber (Close order) = 2
 verdictNumber (Over order) = 3
 
 -- 102; then the row "verdict"
-unfoldable pub verdictCallRefusal : List ℕ → ℕ → ℕ → ℕ
-verdictCallRefusal words order unitsPerAmpere =
-    ownFirst (wordCountCheck recordWords words ∷ []) (verdictRefusal (recordOf words) order unitsPerAmpere)
+unfoldable pub verdictCallRefusal : List ℕ → Question → ℕ
+verdictCallRefusal words q =
+    ownFirst (wordCountCheck recordWords words ∷ []) (verdictRefusal (recordOf words) q)
 
 -- the verdict's number at exit; on a refusal what it was
-unfoldable pub verdictCallExit : List ℕ → ℕ → ℕ → ℕ → ℕ
-verdictCallExit words order unitsPerAmpere verdict =
+unfoldable pub verdictCallExit : List ℕ → Question → ℕ → ℕ
+verdictCallExit words q verdict =
     unlessRefused
-    (verdictCallRefusal words order unitsPerAmpere)
-    (verdictNumber (verdictOf (recordOf words) order unitsPerAmpere))
+    (verdictCallRefusal words q)
+    (verdictNumber (verdictOf (recordOf words) q))
     verdict

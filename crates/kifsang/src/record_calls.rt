@@ -9,9 +9,12 @@ use refusals::NO_REFUSAL;
 use refusals::UNSOUND_RECORD;
 use rows::ORDER_COUNT;
 use rows::Row;
-use verdict::Answered;
+use verdict::Question;
 use verdict::Verdict;
+use verdict::VerdictAnswer;
+use verdict::order_verdict;
 ghost use mathlib.Core.Path.{_≡_};
+ghost use Rattle.verdict.specs.Question.{asked};
 ghost use Rattle.kifsang.specs.RecordCalls.{freshCallRefusal, freshCallExit, addRowCallRefusal, addRowCallExit, verdictNumber, verdictCallRefusal, verdictCallExit};
 
 // Writes a record of a system with zeros.
@@ -64,14 +67,9 @@ fn verdict_number(verdict: Verdict) -> u32
 
 // Writes the number of the verdict of an order.
 #[no_mangle]
-pub extern "C" fn kifsang_verdict(
-    words: &[u64],
-    order: u32,
-    units_per_ampere: u32,
-    verdict: &mut u32,
-) -> u32
-    ensures { λ r. ⌜ r ≡ verdictCallRefusal (now (words .entry)) order «units_per_ampere» ⌝ }
-    ensures { λ _. ⌜ now (verdict .exit) ≡ verdictCallExit (now (words .entry)) order «units_per_ampere» (now (verdict .entry)) ⌝ }
+pub extern "C" fn kifsang_verdict(words: &[u64], order: u32, scale: u32, verdict: &mut u32) -> u32
+    ensures { λ r. ⌜ r ≡ verdictCallRefusal (now (words .entry)) (asked order scale) ⌝ }
+    ensures { λ _. ⌜ now (verdict .exit) ≡ verdictCallExit (now (words .entry)) (asked order scale) (now (verdict .entry)) ⌝ }
 {
     if words.len() != RECORD_WORDS {
         return WRONG_WORD_COUNT;
@@ -79,12 +77,13 @@ pub extern "C" fn kifsang_verdict(
     if !counts_fit(words) {
         return UNSOUND_RECORD;
     }
-    let answered = verdict::class_a::verdict(read_record(words), order, units_per_ampere);
-    match answered {
-        Answered::Given(given) => {
+    let question = Question { order, scale };
+    let answer = order_verdict(read_record(words), question);
+    match answer {
+        VerdictAnswer::Given(given) => {
             *verdict = verdict_number(given);
             NO_REFUSAL
         }
-        Answered::Refused(refusal) => refusal,
+        VerdictAnswer::Refused(refusal) => refusal,
     }
 }

@@ -111,14 +111,16 @@ module _ (average limit peak peakLimit : Held) (order : ℕ) where
       go false false true false e f g h = close e f (inr h)
       go false false false q e f g h = close e f (inl g)
 
--- how the average and the peak lie to their limits in each case
-abbrev pub Says : (average limit peak peakLimit : Fraction) → Verdict → Type 0
-Says average limit peak peakLimit (Over h) = (limit +ᶠ whole smoothedMargin <ᶠ average) ⊎ (peakLimit +ᶠ whole smoothedMargin <ᶠ peak)
-Says average limit peak peakLimit (Within h) = (average +ᶠ whole smoothedMargin ≤ᶠ limit) × (peak +ᶠ whole smoothedMargin ≤ᶠ peakLimit)
-Says average limit peak peakLimit (Close h) = Touches average limit ⊎ Touches peak peakLimit
+-- how an average and a peak lie to the limits of what is asked, in each case
+abbrev pub Says : Question → (average peak : Fraction) → Verdict → Type 0
+Says q average peak (Over h) =
+    (limitInUnits q +ᶠ whole smoothedMargin <ᶠ average) ⊎ (peakLimitInUnits q +ᶠ whole smoothedMargin <ᶠ peak)
+Says q average peak (Within h) =
+    (average +ᶠ whole smoothedMargin ≤ᶠ limitInUnits q) × (peak +ᶠ whole smoothedMargin ≤ᶠ peakLimitInUnits q)
+Says q average peak (Close h) = Touches average (limitInUnits q) ⊎ Touches peak (peakLimitInUnits q)
 
 module _ (o : Observation) (q : Question) where
-  pub verdict-says : Says (averageOf o (q .order)) (limitInUnits q) (peakOf o (q .order)) (peakLimitInUnits q) (verdictOf o q)
+  pub verdict-says : Says q (averageOf o (q .order)) (peakOf o (q .order)) (verdictOf o q)
   unfolding verdictOf
   verdict-says =
       let average = averageOf o (q .order) in
@@ -126,7 +128,7 @@ module _ (o : Observation) (q : Question) where
       let peak = peakOf o (q .order) in
       let peakLimit = peakLimitInUnits q in
       by-tests _ _ _ _ _
-      (Says average limit peak peakLimit)
+      (Says q average peak)
       (⊎-map (over-gt average limit) (over-gt peak peakLimit))
       (λ e f. (within-le average limit e, within-le peak peakLimit f))
       (λ e f.

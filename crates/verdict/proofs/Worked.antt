@@ -21,39 +21,28 @@ use Rattle.verdict.specs.Call.{combined, verdictOf, verdictRefusal, verd
 
 -- ---- the limits
 
-pub record LimitCase : Type 0 where
-  pub order : ℕ
-  pub numerator : ℕ
-  pub denominator : ℕ
-
-abbrev mA : ℕ → ℕ → ℕ → LimitCase
-mA order numerator denominator = record { order = order; numerator = numerator; denominator = denominator }
-
-limitCases : List LimitCase
+-- an order, and its limit in milliamperes as a numerator over a denominator
+limitCases : List (ℕ × ℕ × ℕ)
 limitCases =
-    mA 2 1080 1 ∷
-    mA 3 2300 1 ∷
-    mA 4 430 1 ∷
-    mA 5 1140 1 ∷
-    mA 6 300 1 ∷
-    mA 7 770 1 ∷
-    mA 8 1840 8 ∷
-    mA 9 400 1 ∷
-    mA 10 1840 10 ∷
-    mA 11 330 1 ∷
-    mA 13 210 1 ∷
-    mA 14 1840 14 ∷
-    mA 15 2250 15 ∷
-    mA 39 2250 39 ∷
-    mA 40 1840 40 ∷
+    (2, 1080, 1) ∷
+    (3, 2300, 1) ∷
+    (4, 430, 1) ∷
+    (5, 1140, 1) ∷
+    (6, 300, 1) ∷
+    (7, 770, 1) ∷
+    (8, 1840, 8) ∷
+    (9, 400, 1) ∷
+    (10, 1840, 10) ∷
+    (11, 330, 1) ∷
+    (13, 210, 1) ∷
+    (14, 1840, 14) ∷
+    (15, 2250, 15) ∷
+    (39, 2250, 39) ∷
+    (40, 1840, 40) ∷
     []
 
--- a row with the parts of the limit as they are defined
-limitAsked : LimitCase → LimitCase
-limitAsked row = mA (row .order) (limitOf (row .order) .num) (limitOf (row .order) .den)
-
-limits-worked : map limitAsked limitCases ≡ limitCases
-unfolding limitCases limitAsked limitOf figureIn ownFigures overOrder whole
+limits-worked : map (λ row. (row .0, limitOf (row .0) .num, limitOf (row .0) .den)) limitCases ≡ limitCases
+unfolding limitCases limitOf figureIn ownFigures overOrder whole
 limits-worked = refl
 
 -- ---- the verdicts
@@ -71,10 +60,7 @@ observed windows order sum peak =
 oneWindow : ℕ → ℕ → Observation
 oneWindow order value = observed 1 order value value
 
--- of another system than 10 and 12
-unsound : Observation
-unsound = emptyRecord 11
-
+-- an answer, and what it must be
 verdictCases : List (VerdictAnswer × VerdictAnswer)
 verdictCases =
     -- case •9: the average decides
@@ -105,13 +91,13 @@ verdictCases =
     -- 10: no window yet
     (verdictAnswer (emptyRecord 10) (asked 3 1000000), Refused 10) ∷
     -- 7 before 10, 10 before 6, 6 before 11
-    (verdictAnswer unsound (asked 3 1000000), Refused 7) ∷
+    (verdictAnswer (emptyRecord 11) (asked 3 1000000), Refused 7) ∷
     (verdictAnswer (emptyRecord 10) (asked 41 1000000), Refused 10) ∷
     (verdictAnswer (oneWindow 3 0) (asked 1 0), Refused 6) ∷
     []
 
 verdicts-worked : map (λ row. row .0) verdictCases ≡ map (λ row. row .1) verdictCases
-unfolding verdictCases only observed oneWindow unsound emptyRecord isSystem anyOf noneAbove allZero isSound whole scale divide limitOf figureIn ownFigures overOrder limitInUnits peakLimitInUnits raised atMost isWithin isOver averageOf peakOf combined verdictOf verdictRefusal verdictAnswer
+unfolding verdictCases only observed oneWindow emptyRecord isSystem anyOf noneAbove allZero isSound whole scale divide limitOf figureIn ownFigures overOrder limitInUnits peakLimitInUnits raised atMost isWithin isOver averageOf peakOf combined verdictOf verdictRefusal verdictAnswer
 verdicts-worked = refl
 
 -- ---- the numbers of the cases

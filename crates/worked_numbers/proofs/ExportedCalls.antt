@@ -9,7 +9,7 @@ use Rattle.algebra.specs.Largest.{largest}
 use Rattle.algebra.specs.Lists.{tabulate, anyOf}
 use Rattle.algebra.specs.Weighted.{sumOver}
 use Rattle.algebra.specs.Rounding.{nearest}
-use Rattle.algebra.specs.Fraction.{whole, scale, divide, _+ᶠ_}
+use Rattle.algebra.specs.Fraction.{whole, scale, divide}
 use Rattle.integers.specs.Root.{rootOf}
 use Rattle.groups.specs.Weights.{wholeLines, weightsOf, weightedSum}
 use Rattle.groups.specs.Group.{groupValue, groupRefusal, groupAnswer, groupValues}
@@ -20,8 +20,9 @@ use Rattle.observation.specs.Soundness.{noneAbove, allZero, isSound}
 use Rattle.observation.specs.Book.{smoothedNext, bookStep}
 use Rattle.observation.specs.Smoothing.{smoothedValue}
 use Rattle.observation.specs.Calls.{emptyRecord, freshRefusal, bookAt, nextBook, withRow, rowChecks, addRowRefusal}
-use Rattle.verdict.specs.Limit.{ownFigures, figureIn, limitOf, overOrder}
-use Rattle.verdict.specs.Tests.{limitInUnits, peakLimitInUnits, isWithin, isOver}
+use Rattle.verdict.specs.Question.{asked}
+use Rattle.verdict.specs.Limit.{ownFigures, figureIn, limitOf, overOrder, limitInUnits, peakLimitInUnits}
+use Rattle.verdict.specs.Tests.{raised, atMost, isWithin, isOver}
 use Rattle.verdict.specs.Call.{combined, verdictOf, verdictRefusal}
 use Rattle.observation.specs.Average.{averageOf, peakOf}
 use Rattle.columns.specs.Text.{bytesOf, rightJustified}
@@ -91,8 +92,8 @@ recordWith : ℕ → ℕ → List ℕ
 recordWith windows value = 10 ∷ windows ∷ replicate 120 value
 
 verdictFor : List ℕ → ℕ → ℕ → ℕ × ℕ
-verdictFor words order unitsPerAmpere =
-    (verdictCallRefusal words order unitsPerAmpere, verdictCallExit words order unitsPerAmpere 77)
+verdictFor words order scale =
+    (verdictCallRefusal words (asked order scale), verdictCallExit words (asked order scale) 77)
 
 verdicts-worked :
     Alike
@@ -112,7 +113,7 @@ verdicts-worked :
     (verdictFor (recordWith 1 0) 40 (2 ^ 28 + 1), (11, 77)) ∷
     (verdictFor (recordWith 1 0) 40 (2 ^ 28), (0, 1)) ∷
     [])
-unfolding Alike verdictFor recordWith verdictCallRefusal verdictCallExit verdictNumber recordOf verdictRefusal verdictOf averageOf peakOf combined isOver isWithin limitInUnits peakLimitInUnits limitOf figureIn ownFigures overOrder whole scale divide _+ᶠ_ isSound isSystem noneAbove allZero anyOf
+unfolding Alike verdictFor recordWith verdictCallRefusal verdictCallExit verdictNumber recordOf verdictRefusal verdictOf averageOf peakOf combined raised atMost isOver isWithin limitInUnits peakLimitInUnits limitOf figureIn ownFigures overOrder whole scale divide isSound isSystem noneAbove allZero anyOf
 verdicts-worked = refl
 
 -- ---- kifsang_row

@@ -22,8 +22,8 @@ use Rattle.observation.specs.Smoothing.{reported}
 use Rattle.observation.specs.Calls.{bookAt}
 use Rattle.verdict.specs.declared.Verdict.{Verdict}
 use Rattle.verdict.specs.declared.Verdict.the-variants.{Within, Close, Over}
-use Rattle.verdict.specs.Limit.{ownFigures, figureIn, limitOf, overOrder}
-use Rattle.verdict.specs.Tests.{limitInUnits, peakLimitInUnits}
+use Rattle.verdict.specs.Question.{asked}
+use Rattle.verdict.specs.Limit.{ownFigures, figureIn, limitOf, overOrder, limitInUnits, peakLimitInUnits}
 use Rattle.accuracy.specs.Distance.{InRange, GroupsNear}
 use Rattle.accuracy.specs.CallList.{CallList, after, state}
 use Rattle.accuracy.specs.Claim.{WorkedList, LBook, UBook, reportedBook, Keeps}
@@ -132,7 +132,7 @@ module _ (kind : Kind) (list : CallList) (k : ℕ) where
   abbrev NumberSays : ℕ → Type 0
   NumberSays number = ((number ≡ 1) × SaysWithin) ⊎ (((number ≡ 2) × SaysClose) ⊎ ((number ≡ 3) × SaysOver))
 
-  verdict-number-says : (verdict : Verdict) → Keeps kind list 3 k verdict → NumberSays (verdictNumber verdict)
+  verdict-number-says : (verdict : Verdict) → Keeps kind list (asked 3 k) verdict → NumberSays (verdictNumber verdict)
   unfolding Keeps verdictNumber limitInUnits peakLimitInUnits limitOf figureIn ownFigures overOrder whole scale divide _+ᶠ_
   verdict-number-says (Within h) keeps = inl (refl, λ l. (omega (arith, keeps l .0), omega (arith, keeps l .1)))
   verdict-number-says (Close h) keeps =
@@ -163,8 +163,8 @@ module _
     -- what the number of a verdict of order 3 tells, whatever it was before the call
     words-verdict-number :
         (k before : ℕ) →
-        verdictCallRefusal (wordsAfter words calls) 3 k ≡ 0 →
-        NumberSays kind list k (verdictCallExit (wordsAfter words calls) 3 k before)
-    words-verdict-number k before asked =
-        let given = holds .verdicts 3 k asked in
+        verdictCallRefusal (wordsAfter words calls) (asked 3 k) ≡ 0 →
+        NumberSays kind list k (verdictCallExit (wordsAfter words calls) (asked 3 k) before)
+    words-verdict-number k before passed =
+        let given = holds .verdicts (asked 3 k) passed in
         rw (given .number before) (verdict-number-says kind list k (given .verdict) (given .kept))

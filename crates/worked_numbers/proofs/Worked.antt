@@ -3,7 +3,7 @@ use mathlib.Core.Path.{_≡_, refl, fun-ext, _∙_}
 use mathlib.Core.Bool.{true}
 use Prim.Native.Nat.{ℕ, _<_}
 use lib.ListN.{getD}
-use Rattle.algebra.specs.Fraction.{whole, scale, divide, _+ᶠ_}
+use Rattle.algebra.specs.Fraction.{whole, scale, divide}
 use Rattle.algebra.specs.Largest.{largest}
 use Rattle.algebra.specs.Lists.{tabulate, anyOf}
 use Rattle.algebra.specs.Rounding.{nearest}
@@ -28,8 +28,8 @@ use Rattle.observation.specs.Smoothing.{smoothedValue}
 use Rattle.observation.specs.Soundness.{noneAbove, allZero, isSound}
 use Rattle.observation.specs.Calls.{emptyRecord, freshRefusal, freshAnswer, bookAt, nextBook, withRow, rowChecks, addRowRefusal, addRowAnswer}
 use Rattle.observation.specs.RecordAfter.{recordAfter}
-use Rattle.verdict.specs.Limit.{ownFigures, figureIn, limitOf, overOrder}
-use Rattle.verdict.specs.Tests.{limitInUnits, peakLimitInUnits, isWithin, isOver}
+use Rattle.verdict.specs.Limit.{ownFigures, figureIn, limitOf, overOrder, limitInUnits, peakLimitInUnits}
+use Rattle.verdict.specs.Tests.{raised, atMost, isWithin, isOver}
 use Rattle.verdict.specs.Call.{combined, verdictOf, verdictRefusal, verdictAnswer}
 use Rattle.observation.specs.Average.{averageOf, peakOf}
 use Rattle.columns.specs.Text.{bytesOf}
@@ -63,7 +63,7 @@ pulse-group kind system value known alike order known-order =
     )
 
 pub worked-numbers : Everywhere Holds cases
-unfolding cases Holds tableEntry nearest quarterSine denominator added takenAway term factorial isSystem rootOf largest weightsOf wholeLines weightedSum sumOver tabulate anyOf rowOf recordOf recordAfter emptyRecord freshRefusal freshAnswer bookAt nextBook withRow rowChecks addRowRefusal addRowAnswer noneAbove allZero isSound smoothedNext bookStep smoothedValue ownFigures figureIn limitOf overOrder limitInUnits peakLimitInUnits isWithin isOver averageOf peakOf combined verdictOf verdictRefusal verdictAnswer whole scale divide _+ᶠ_ bytesOf isDigit areDigits isWhole placeValue wholeNumber negativeNumber signedNumber afterBlanks columnNumber columnReadAnswer
+unfolding cases Holds tableEntry nearest quarterSine denominator added takenAway term factorial isSystem rootOf largest weightsOf wholeLines weightedSum sumOver tabulate anyOf rowOf recordOf recordAfter emptyRecord freshRefusal freshAnswer bookAt nextBook withRow rowChecks addRowRefusal addRowAnswer noneAbove allZero isSound smoothedNext bookStep smoothedValue ownFigures figureIn limitOf overOrder limitInUnits peakLimitInUnits raised atMost isWithin isOver averageOf peakOf combined verdictOf verdictRefusal verdictAnswer whole scale divide bytesOf isDigit areDigits isWhole placeValue wholeNumber negativeNumber signedNumber afterBlanks columnNumber columnReadAnswer
 worked-numbers = (
   refl,
   (

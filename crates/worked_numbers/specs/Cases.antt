@@ -20,7 +20,8 @@ use Rattle.observation.specs.Calls.{freshAnswer}
 use Rattle.observation.specs.RecordAfter.{recordAfter}
 use Rattle.verdict.specs.declared.Verdict.{Verdict}
 use Rattle.verdict.specs.declared.Verdict.the-variants.{Within, Close, Over}
-use Rattle.verdict.specs.declared.Answered.the-variants.{Given}
+use Rattle.verdict.specs.declared.VerdictAnswer.the-variants.{Given}
+use Rattle.verdict.specs.Question.{asked}
 use Rattle.verdict.specs.Call.{verdictAnswer}
 use Rattle.columns.specs.Text.{bytesOf}
 use Rattle.columns.specs.Calls.{columnReadAnswer}
@@ -60,7 +61,7 @@ Holds (group kind system value) =
     (order : ℕ) → isOrder order ≡ true → groupAnswer kind system order (linesOf pulse) ≡ answer noRefusal value
 Holds (smoothed first second value) =
     recordOf (rowOf first ∷ rowOf second ∷ []) .smoothed ≡ replicate orderCount value
-Holds (verdict value given) = verdictAnswer (recordOf (rowOf value ∷ [])) 3 1000000 ≡ Given given
+Holds (verdict value given) = verdictAnswer (recordOf (rowOf value ∷ [])) (asked 3 1000000) ≡ Given given
 Holds (column text number) = columnReadAnswer (bytesOf text) ≡ record { refusal = noRefusal; value = number }
 Holds (noColumn text) = columnReadAnswer (bytesOf text) ≡ record { refusal = notAColumn; value = pos 0 }
 

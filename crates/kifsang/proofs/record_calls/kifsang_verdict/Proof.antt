@@ -3,6 +3,7 @@ use mathlib.Core.Path.{_≡_, refl, sym, ap, _∙_}
 use mathlib.Core.Bool.{false}
 use borrow.Author.Needs.{needs}
 use borrow.Author.Tests.{eq-eqb, ne-eqb, not-true, not-false}
+use Rattle.verdict.specs.Question.{asked}
 use Rattle.verdict.specs.Call.{verdictRefusal, verdictAnswer}
 use Rattle.kifsang.specs.Words.{recordWords, recordOf, countsFit}
 use Rattle.kifsang.specs.RecordCalls.{verdictNumber, verdictCallRefusal, verdictCallExit}
@@ -29,15 +30,16 @@ read-record-requires : tie.Need-read-record-requires
 read-record-requires c κs =
     (c .before .before .if1 .left, sym (c .before .counts-fit .ensures) ∙ not-false _ (c .if2 .left))
 
-verdict-requires : tie.Need-verdict-requires
-verdict-requires c κs = search needs
+order-verdict-requires : tie.Need-order-verdict-requires
+order-verdict-requires c κs = search needs
 
 -- the answer, of the record that the words hold
-answer-eq : (c : tie.After-verdict) → c .verdict .result ≡ verdictAnswer (recordOf (c .before .before .before .before .before .before .args .words .now)) (c .before .before .before .before .before .before .args .order) (c .before .before .before .before .before .before .args .units-per-ampere)
-answer-eq c = rw (← c .before .read-record .ensures) (c .verdict .ensures .0)
+answer-eq : (c : tie.After-order-verdict) → let a = c .before .before .before .before .before .before .args in
+    c .order-verdict .result ≡ verdictAnswer (recordOf (a .words .now)) (asked (a .order) (a .scale))
+answer-eq c = rw (← c .before .read-record .ensures) (c .order-verdict .ensures .0)
 
-enum-known-answered : tie.Need-enum-known-answered
-enum-known-answered c = search needs
+enum-known-answer : tie.Need-enum-known-answer
+enum-known-answer c = search needs
 
 verdict-number-requires : tie.Need-verdict-number-requires
 verdict-number-requires c κs = search needs
@@ -49,12 +51,12 @@ returns-3 c =
     let at-verdict = at-match .before .before in
     let at-length = at-verdict .before .before .before .before in
     let a = at-length .before .before .args in
-    let given = given-case (recordOf (a .words .now)) (a .order) (a .units-per-ampere) _ (sym (answer-eq at-verdict) ∙ at-match .answered .given .1) in
+    let given = given-case (recordOf (a .words .now)) (asked (a .order) (a .scale)) _ (sym (answer-eq at-verdict) ∙ at-match .answer .given .1) in
     rw (eq-eqb _ recordWords (at-length .if1 .left), given .0)
     (refl, c .verdict-number .ensures ∙ ap verdictNumber (given .1))
 
-enum-known-answered-2 : tie.Need-enum-known-answered-2
-enum-known-answered-2 c = search needs
+enum-known-answer-2 : tie.Need-enum-known-answer-2
+enum-known-answer-2 c = search needs
 
 returns-4 : tie.Need-returns-4
 unfolding verdictCallRefusal verdictCallExit
@@ -63,7 +65,7 @@ returns-4 c =
     let at-verdict = at-match .before .before in
     let at-length = at-verdict .before .before .before .before in
     let a = at-length .before .before .args in
-    let refused = refused-case (recordOf (a .words .now)) (a .order) (a .units-per-ampere) _ (sym (answer-eq at-verdict) ∙ at-match .answered2 .given .1) in
+    let refused = refused-case (recordOf (a .words .now)) (asked (a .order) (a .scale)) _ (sym (answer-eq at-verdict) ∙ at-match .answer2 .given .1) in
     rw (eq-eqb _ recordWords (at-length .if1 .left), refused .1) (refused .0, refl)
 
 pub kifsang-verdict-spec : {M : Type 1} → statement M
@@ -74,9 +76,9 @@ kifsang-verdict-spec =
     counts-fit-requires
     returns-2
     read-record-requires
-    verdict-requires
-    enum-known-answered
+    order-verdict-requires
+    enum-known-answer
     verdict-number-requires
-    enum-known-answered-2
+    enum-known-answer-2
     returns-3
     returns-4)
