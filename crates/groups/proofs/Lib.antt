@@ -1,5 +1,4 @@
--- The theorems of the groups and of group distortion.
+-- The theorems of the groups.
 pub mod Weights
 pub mod GroupSum
-pub mod RowDistortion
 pub mod Worked

@@ -1,4 +1,5 @@
--- The edges of the refusal table's row "group value" and of its order with the whole answers, which lines a kind has, and worked distortions, each a table of rows and one computed theorem over it.
+-- The spans and weights of the kinds in figures; the edges of the refusal table's row "group value" and of its order, with the whole answers; and rows of values. Each is a table of rows and one computed theorem over it.
+use mathlib.Core.Bool.{Bool, true, false}
 use mathlib.Core.List.{List, [], _∷_, _++_, map}
 use mathlib.Core.Path.{_≡_, refl}
 use Prim.Native.Nat.{ℕ, _+_, _^_}
@@ -8,15 +9,69 @@ use Rattle.algebra.specs.Lists.{tabulate, anyOf}
 use Rattle.algebra.specs.Weighted.{sumOver}
 use Rattle.integers.specs.Root.{rootOf}
 use Rattle.refusals.specs.declared.Answer.{Answer}
+use Rattle.rows.specs.declared.RowAnswer.{RowAnswer}
+use Rattle.rows.specs.Orders.{isOrder}
+use Rattle.rows.specs.Rows.{refusedRow}
+use Rattle.rows.specs.Systems.{isSystem}
 use Rattle.groups.specs.declared.Kind.{Kind}
 use Rattle.groups.specs.declared.Kind.the-variants.{Component, HarmonicGroup, HarmonicSubgroup, InterharmonicGroup, InterharmonicCentredSubgroup}
-use Rattle.groups.specs.declared.OrderValues.{OrderValues}
-use Rattle.groups.specs.Weights.{wholeLines, weightsOf, weightedSum}
-use Rattle.groups.specs.Group.{groupValue, groupRefusal, groupAnswer, groupValues, groupValuesAnswer}
-use Rattle.rows.specs.Systems.{isSystem}
-use Rattle.rows.specs.Orders.{isOrder}
-use Rattle.rows.specs.Rows.{firstValues}
-use Rattle.groups.specs.Distortion.{sumOfSquares, distortionOf, distortionAnswer}
+use Rattle.groups.specs.declared.Span.{Span}
+use Rattle.groups.specs.Spans.{Weighted, spanOf, weightsIn, weightedSum}
+use Rattle.groups.specs.Group.{groupValue, groupRefusal, groupAnswer, groupValues, groupRowRefusal, groupRowAnswer}
+
+-- ---- the lines of a kind
+
+abbrev span : ℕ → ℕ → Bool → Span
+span first count halfEnds = record { first = first; count = count; «half_ends» = halfEnds }
+
+-- order 3 is at line 30 of system 10 and at line 36 of system 12; the first order, and the last, after which there are 11 lines and no more
+abbrev spans : List (Span × Span)
+spans =
+    (spanOf Component 10 3, span 30 1 false) ∷
+    (spanOf Component 12 3, span 36 1 false) ∷
+    (spanOf HarmonicGroup 10 3, span 25 11 true) ∷
+    (spanOf HarmonicGroup 12 3, span 30 13 true) ∷
+    (spanOf HarmonicSubgroup 10 3, span 29 3 false) ∷
+    (spanOf HarmonicSubgroup 12 3, span 35 3 false) ∷
+    (spanOf InterharmonicGroup 10 3, span 31 9 false) ∷
+    (spanOf InterharmonicGroup 12 3, span 37 11 false) ∷
+    (spanOf InterharmonicCentredSubgroup 10 3, span 32 7 false) ∷
+    (spanOf InterharmonicCentredSubgroup 12 3, span 38 9 false) ∷
+    (spanOf HarmonicGroup 10 1, span 5 11 true) ∷
+    (spanOf InterharmonicGroup 12 40, span 481 11 false) ∷
+    []
+
+spans-worked : map (λ c. c .0) spans ≡ map (λ c. c .1) spans
+unfolding spanOf
+spans-worked = refl
+
+abbrev weighted : ℕ → ℕ → Weighted
+weighted line twiceWeight = record { line = line; twiceWeight = twiceWeight }
+
+-- 2 is twice the weight 1, and 1 twice the weight 1/2
+weights-worked :
+    (weightsIn (span 25 4 true) ≡ weighted 25 1 ∷ weighted 26 2 ∷ weighted 27 2 ∷ weighted 28 1 ∷ []) ×
+    (weightsIn (span 29 3 false) ≡ weighted 29 2 ∷ weighted 30 2 ∷ weighted 31 2 ∷ [])
+unfolding weightsIn tabulate
+weights-worked = (refl, refl)
+
+-- 512 lines of which one is 50 and the others 0
+abbrev oneLine : ℕ → List ℕ
+oneLine line = set (replicate 512 0) line 50
+
+-- the last line of each kind at order 3 of system 10: the root of 100 where it has weight 1, and that of 50 where it has weight 1/2
+abbrev lastLines : List (Kind × ℕ × ℕ)
+lastLines =
+    (Component, 30, 10) ∷
+    (HarmonicGroup, 35, 7) ∷
+    (HarmonicSubgroup, 31, 10) ∷
+    (InterharmonicGroup, 39, 10) ∷
+    (InterharmonicCentredSubgroup, 38, 10) ∷
+    []
+
+lastLines-worked : map (λ c. groupValue (c .0) 10 3 (oneLine (c .1))) lastLines ≡ map (λ c. c .2) lastLines
+unfolding groupValue spanOf weightsIn tabulate weightedSum sumOver rootOf largest
+lastLines-worked = refl
 
 -- ---- the answers for components
 
@@ -32,17 +87,13 @@ abbrev case : ℕ → ℕ → ℕ → ℕ → ℕ → ℕ → Case
 case system order before last refusal value =
     record { system = system; order = order; before = before; last = last; answered = record { refusal = refusal; value = value } }
 
-abbrev pub cases : List Case
+abbrev cases : List Case
 cases =
-    -- both systems, and their neighbours
-    case 10 1 511 0 0 10 ∷
-    case 12 1 511 0 0 10 ∷
-    case 9 1 511 0 1 0 ∷
+    -- neither 10 nor 12
     case 11 1 511 0 1 0 ∷
-    case 13 1 511 0 1 0 ∷
     -- the first and the last order, and their neighbours
     case 10 0 511 0 6 0 ∷
-    case 10 40 511 0 0 10 ∷
+    case 10 1 511 0 0 10 ∷
     case 12 40 511 0 0 10 ∷
     case 10 41 511 0 6 0 ∷
     -- a line too few, and one too many
@@ -61,123 +112,42 @@ cases =
 abbrev linesBefore : ℕ → ℕ → List ℕ
 linesBefore before last = replicate before 50 ++ (last ∷ [])
 
-cases-worked : map (λ c. groupAnswer Component (c .system) (c .order) (linesBefore (c .before) (c .last))) cases
-    ≡ map (λ c. c .answered) cases
-unfolding groupAnswer groupRefusal isSystem isOrder anyOf groupValue weightsOf weightedSum sumOver rootOf largest
+cases-worked :
+    map (λ c. groupAnswer Component (c .system) (c .order) (linesBefore (c .before) (c .last))) cases ≡
+    map (λ c. c .answered) cases
+unfolding groupAnswer groupRefusal isSystem isOrder anyOf groupValue spanOf weightsIn tabulate weightedSum sumOver rootOf largest
 cases-worked = refl
 
 -- ---- the answers for a row of components
-
--- 512 lines of which one is not 0
-abbrev oneLine : ℕ → List ℕ
-oneLine line = set (replicate 512 0) line 50
 
 -- a system, the lines, and what is answered
 pub record RowCase : Type 0 where
   pub system : ℕ
   pub lines : List ℕ
-  pub answered : OrderValues
+  pub answered : RowAnswer
 
-abbrev rowCase : ℕ → List ℕ → ℕ → List ℕ → RowCase
-rowCase system lines refusal values =
-    record { system = system; lines = lines; answered = record { refusal = refusal; values = values } }
+-- refused: a row of system 10, and zeros
+abbrev refusedCase : ℕ → List ℕ → ℕ → RowCase
+refusedCase system lines refusal =
+    record { system = system; lines = lines; answered = record { refusal = refusal; row = record { system = 10; values = replicate 40 0 } } }
 
 abbrev rowCases : List RowCase
 rowCases =
-    -- the lines of the orders 1 and 3, and of 40
-    rowCase 10 (oneLine 10) 0 (10 ∷ replicate 39 0) ∷
-    rowCase 10 (oneLine 30) 0 (0 ∷ 0 ∷ 10 ∷ replicate 37 0) ∷
-    rowCase 12 (oneLine 480) 0 (replicate 39 0 ++ (10 ∷ [])) ∷
+    -- the lines of the orders 1 and 40
+    record {
+      system = 12;
+      lines = set (oneLine 12) 480 200;
+      answered = record { refusal = 0; row = record { system = 12; values = 10 ∷ replicate 38 0 ++ (20 ∷ []) } };
+    } ∷
     -- each fault
-    rowCase 11 (linesBefore 511 0) 1 (replicate 40 0) ∷
-    rowCase 10 (linesBefore 510 0) 4 (replicate 40 0) ∷
-    rowCase 10 (linesBefore 511 (2 ^ 59 + 1)) 5 (replicate 40 0) ∷
+    refusedCase 11 (linesBefore 511 0) 1 ∷
+    refusedCase 12 (linesBefore 510 0) 4 ∷
+    refusedCase 12 (linesBefore 511 (2 ^ 59 + 1)) 5 ∷
     -- two faults: the earlier in the row decides
-    rowCase 11 (linesBefore 510 0) 1 (replicate 40 0) ∷
-    rowCase 10 (linesBefore 512 (2 ^ 59 + 1)) 4 (replicate 40 0) ∷
+    refusedCase 11 (linesBefore 510 0) 1 ∷
+    refusedCase 12 (linesBefore 512 (2 ^ 59 + 1)) 4 ∷
     []
 
-rowCases-worked : map (λ c. groupValuesAnswer Component (c .system) (c .lines)) rowCases ≡ map (λ c. c .answered) rowCases
-unfolding groupValuesAnswer groupValues tabulate groupAnswer groupRefusal isSystem isOrder anyOf groupValue weightsOf weightedSum sumOver rootOf largest
+rowCases-worked : map (λ c. groupRowAnswer Component (c .system) (c .lines)) rowCases ≡ map (λ c. c .answered) rowCases
+unfolding groupRowAnswer groupRowRefusal refusedRow groupValues groupAnswer groupRefusal isSystem isOrder anyOf groupValue spanOf weightsIn tabulate weightedSum sumOver rootOf largest
 rowCases-worked = refl
-
--- ---- the lines of a kind
-
--- a kind, a system and an order, and for some line numbers the value where that line alone is not 0
-pub record Span : Type 0 where
-  pub kind : Kind
-  pub system : ℕ
-  pub order : ℕ
-  pub values : List (ℕ × ℕ)
-
-abbrev span : Kind → ℕ → ℕ → List (ℕ × ℕ) → Span
-span kind system order values =
-    record { kind = kind; system = system; order = order; values = values }
-
--- The line is 50, so that the value is 10 (the root of 100) where it has weight 1, and 7 (that of 50) where it has weight 1/2.
--- The first line and the last of a kind, and the line before and after: order 3 is at line 30 of system 10 and at line 36 of system 12.
-abbrev spans : List Span
-spans =
-    span Component 10 3 ((29, 0) ∷ (30, 10) ∷ (31, 0) ∷ []) ∷
-    span Component 12 3 ((35, 0) ∷ (36, 10) ∷ (37, 0) ∷ []) ∷
-    span HarmonicGroup 10 3 ((24, 0) ∷ (25, 7) ∷ (26, 10) ∷ (34, 10) ∷ (35, 7) ∷ (36, 0) ∷ []) ∷
-    span HarmonicGroup 12 3 ((29, 0) ∷ (30, 7) ∷ (31, 10) ∷ (41, 10) ∷ (42, 7) ∷ (43, 0) ∷ []) ∷
-    span HarmonicSubgroup 10 3 ((28, 0) ∷ (29, 10) ∷ (31, 10) ∷ (32, 0) ∷ []) ∷
-    span HarmonicSubgroup 12 3 ((34, 0) ∷ (35, 10) ∷ (37, 10) ∷ (38, 0) ∷ []) ∷
-    span InterharmonicGroup 10 3 ((30, 0) ∷ (31, 10) ∷ (39, 10) ∷ (40, 0) ∷ []) ∷
-    span InterharmonicGroup 12 3 ((36, 0) ∷ (37, 10) ∷ (47, 10) ∷ (48, 0) ∷ []) ∷
-    span InterharmonicCentredSubgroup 10 3 ((31, 0) ∷ (32, 10) ∷ (38, 10) ∷ (39, 0) ∷ []) ∷
-    span InterharmonicCentredSubgroup 12 3 ((37, 0) ∷ (38, 10) ∷ (46, 10) ∷ (47, 0) ∷ []) ∷
-    -- the first order and the last
-    span Component 10 1 ((9, 0) ∷ (10, 10) ∷ (11, 0) ∷ []) ∷
-    span Component 12 40 ((479, 0) ∷ (480, 10) ∷ (481, 0) ∷ []) ∷
-    []
-
-spans-worked : map (λ c. map (λ v. groupValue (c .kind) (c .system) (c .order) (oneLine (v .0))) (c .values)) spans
-    ≡ map (λ c. map (λ v. v .1) (c .values)) spans
-unfolding groupValue weightsOf wholeLines tabulate weightedSum sumOver rootOf largest
-spans-worked = refl
-
--- ---- the values of a row in words
-
--- some words, and the values of the orders 1..40
-abbrev words : List (List ℕ × List ℕ)
-words =
-    (7 ∷ 8 ∷ [], 7 ∷ 8 ∷ replicate 38 0) ∷
-    (7 ∷ replicate 38 0 ++ (8 ∷ 9 ∷ []), 7 ∷ replicate 38 0 ++ (8 ∷ [])) ∷
-    []
-
-words-worked : map (λ c. firstValues (c .0)) words ≡ map (λ c. c .1) words
-unfolding firstValues tabulate
-words-worked = refl
-
--- ---- distortion
-
--- the first value, the second, the last, and what is answered
-pub record Distorted : Type 0 where
-  pub first : ℕ
-  pub second : ℕ
-  pub last : ℕ
-  pub answered : Answer
-
--- the values between are 0
-abbrev distorted : ℕ → ℕ → ℕ → ℕ → ℕ → Distorted
-distorted first second last refusal value =
-    record { first = first; second = second; last = last; answered = record { refusal = refusal; value = value } }
-
-abbrev distortions : List Distorted
-distortions =
-    -- 3/10 and 4/10 of the fundamental are together 5/10
-    distorted 1000 300 400 0 500 ∷
-    -- 2/3 in parts per thousand, not rounded up
-    distorted 3 2 0 0 666 ∷
-    distorted 1 0 0 0 0 ∷
-    -- the largest values: the root of 2, in parts per thousand
-    distorted 4294967295 4294967295 4294967295 0 1414 ∷
-    distorted 1 0 4294967295 0 4294967295000 ∷
-    distorted 0 1 1 12 0 ∷
-    []
-
-distortions-worked : map (λ c. distortionAnswer (c .first ∷ c .second ∷ (replicate 37 0 ++ (c .last ∷ [])))) distortions ≡ map (λ c. c .answered) distortions
-unfolding distortionAnswer distortionOf sumOfSquares sumOver largest
-distortions-worked = refl

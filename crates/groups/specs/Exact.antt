@@ -6,7 +6,7 @@ use Rattle.algebra.specs.Fraction.{Fraction}
 use Rattle.sine.specs.ExactSine.{denominator}
 use Rattle.spectrum.specs.Exact.{exactLine, denominator-square-pos}
 use Rattle.groups.specs.declared.Kind.{Kind}
-use Rattle.groups.specs.Weights.{weightsOf, weightedSum}
+use Rattle.groups.specs.Spans.{weightsOf, weightedSum}
 
 -- the numerator of G, over the square of the exact sine's denominator
 unfoldable pub exactGroupNumerator : Kind → ℕ → ℕ → List ℤ → ℕ

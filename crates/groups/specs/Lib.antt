@@ -1,5 +1,4 @@
--- Groups of lines: their weights, their values, the exact groups, and group distortion.
-pub mod Weights
+-- Groups of lines: their spans and weights, their values, the rows of them, and the exact groups.
+pub mod Spans
 pub mod Exact
 pub mod Group
-pub mod Distortion

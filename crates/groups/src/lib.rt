@@ -1,12 +1,10 @@
-// From the lines of a window to its harmonic and interharmonic groups, and from a row of groups to its distortion.
+// From the lines of a window to its harmonic and interharmonic groups.
 
 mod group;
-mod row_distortion;
+mod spans;
 
+pub use group::group_row;
 pub use group::group_value;
-pub use group::group_values;
-pub use row_distortion::distortion;
-use rows::ORDER_COUNT;
 
 // The five groupings of document 01.
 pub enum Kind {
@@ -17,8 +15,9 @@ pub enum Kind {
     InterharmonicCentredSubgroup,
 }
 
-// What a call for all orders answers: NO_REFUSAL with the values of the orders 1..40 at the places 0..39, or a refusal's number with zeros.
-pub struct OrderValues {
-    pub refusal: u32,
-    pub values: [u32; ORDER_COUNT],
+// Neighbouring lines, which a group takes with weight 1, or with weight 1/2 at both ends.
+pub struct Span {
+    pub first: usize,
+    pub count: usize,
+    pub half_ends: bool,
 }

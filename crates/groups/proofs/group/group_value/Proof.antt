@@ -5,22 +5,13 @@ use Rattle.groups.specs.Group.{groupAnswer}
 use Rattle.groups.proofs.group.group_value.Statement.{statement}
 use Rattle.groups.proofs.group.group_value.Tie as tie
 
-group-refusal-requires : tie.Need-group-refusal-requires
-group-refusal-requires c κs = search needs
-
 returns : tie.Need-returns
 unfolding groupAnswer
 returns c = rw (← c .before .group-refusal .ensures, ne-eqb _ 0 (c .if1 .taken))
-
-value-of-requires : tie.Need-value-of-requires
-value-of-requires c κs = search needs
-
-cast-t8 : tie.Need-cast-t8
-cast-t8 c = search needs
 
 returns-2 : tie.Need-returns-2
 unfolding groupAnswer
 returns-2 c = rw (← c .before .before .group-refusal .ensures, c .before .if1 .left, c .value-of .ensures)
 
 pub group-value-spec : {M : Type 1} → statement M
-group-value-spec = tie.close (tie.spec group-refusal-requires returns value-of-requires cast-t8 returns-2)
+group-value-spec = tie.close (tie.spec (λ c κs. search needs) returns (λ c κs. search needs) (λ c. search needs) returns-2)

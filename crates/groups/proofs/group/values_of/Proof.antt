@@ -8,7 +8,7 @@ use Rattle.algebra.specs.Lists.{tabulate}
 use Rattle.algebra.proofs.Filling.{Filled, filled-more, filled-whole}
 use Rattle.groups.specs.Group.{groupAnswer, groupValues}
 use Rattle.rows.specs.Orders.{orderCount}
-use Rattle.groups.proofs.GroupSum.{refusal-shared, accepted-value}
+use Rattle.groups.proofs.GroupSum.{groupRefusal-of-place, accepted-value}
 use Rattle.groups.proofs.group.values_of.Statement.{statement}
 use Rattle.groups.proofs.group.values_of.Tie as tie
 
@@ -23,33 +23,15 @@ loop-holds : tie.Need-loop-holds Inv-loop μ-loop
 unfolding tabulate
 loop-holds c = (omega arith, refl)
 
-cast-value-of : tie.Need-cast-value-of Inv-loop μ-loop
-cast-value-of c = search needs
-
-add-value-of : tie.Need-add-value-of Inv-loop μ-loop
-add-value-of c = search needs
-
 -- an order that is reached is not refused
 value-of-requires : tie.Need-value-of-requires Inv-loop μ-loop
-value-of-requires c κs = refusal-shared _ _ _ (omega arith) ∙ c .before .before .before .pre
-
-mul-values : tie.Need-mul-values Inv-loop μ-loop
-mul-values c = search needs
-
-array-write-values : tie.Need-array-write-values Inv-loop μ-loop
-array-write-values c = search needs
-
-add-i : tie.Need-add-i Inv-loop μ-loop
-add-i c = search needs
-
-loop-less : tie.Need-loop-less Inv-loop μ-loop
-loop-less c = search needs
+value-of-requires c κs = groupRefusal-of-place _ _ _ (omega arith) ∙ c .before .before .before .pre
 
 loop-again : tie.Need-loop-again Inv-loop μ-loop
 loop-again c =
     let at = c .before .before in
     let inside : at .loop .i < orderCount = omega arith in
-    let refusal = refusal-shared _ _ _ inside ∙ at .before .before .pre in
+    let refusal = groupRefusal-of-place _ _ _ inside ∙ at .before .before .pre in
     let value = c .value-of .ensures ∙ sym (accepted-value _ _ _ _ refusal) in
     (omega arith, filled-more _ _ (replicate orderCount 0) _ (at .loop .inv .1) _ inside value)
 
@@ -66,12 +48,12 @@ values-of-spec =
     Inv-loop
     μ-loop
     loop-holds
-    cast-value-of
-    add-value-of
+    (λ c. search needs)
+    (λ c. search needs)
     value-of-requires
-    mul-values
-    array-write-values
-    add-i
-    loop-less
+    (λ c. search needs)
+    (λ c. search needs)
+    (λ c. search needs)
+    (λ c. search needs)
     loop-again
     returns)

@@ -1,4 +1,4 @@
--- `groups::row_distortion::distortion` meets its contract: the refusal, or the root of the scaled sum divided by the first value.
+-- `distortion::distortion` meets its contract: the refusal, or the root of the scaled sum divided by the first value.
 use mathlib.Core.Path.{_≡_, ap, _∙_}
 use mathlib.Core.List.{List}
 use Prim.Native.Nat.{ℕ, _/_}
@@ -10,42 +10,15 @@ use mir.Syntax.{w32}
 use mir.Val.{Fits}
 use Rattle.integers.specs.Wide.{wideLimbs, limbsOf}
 use Rattle.rows.specs.Orders.{orderCount}
-use Rattle.groups.specs.Distortion.{sumOfSquares, distortionOf, distortionAnswer}
-use Rattle.groups.proofs.RowDistortion.{distortion-quotient}
+use Rattle.distortion.specs.Distortion.{sumOfSquares, distortionOf, distortionAnswer}
+use Rattle.distortion.proofs.RowDistortion.{distortion-quotient}
 use borrow.Author.Needs.{needs}
-use Rattle.groups.proofs.row_distortion.distortion.Statement.{statement}
-use Rattle.groups.proofs.row_distortion.distortion.Tie as tie
-
-array-read-fundamental : tie.Need-array-read-fundamental
-array-read-fundamental c = search needs
+use Rattle.distortion.proofs.distortion.Statement.{statement}
+use Rattle.distortion.proofs.distortion.Tie as tie
 
 returns : tie.Need-returns
 unfolding distortionAnswer
 returns c = rw (eq-eqb (getD (c .before .args .t1) 0 0) 0 (c .if1 .taken))
-
-sub-sum-of-squares : tie.Need-sub-sum-of-squares
-sub-sum-of-squares c = search needs
-
-part-sum-of-squares-start : tie.Need-part-sum-of-squares-start
-part-sum-of-squares-start c = search needs
-
-part-sum-of-squares-end : tie.Need-part-sum-of-squares-end
-part-sum-of-squares-end c = search needs
-
-sum-of-squares-requires : tie.Need-sum-of-squares-requires
-sum-of-squares-requires c κs = search needs
-
-scaled-requires : tie.Need-scaled-requires
-scaled-requires c κs = search needs
-
-wide-root-requires : tie.Need-wide-root-requires
-wide-root-requires c κs = search needs
-
-cast-t16 : tie.Need-cast-t16
-cast-t16 c = search needs
-
-div-t17 : tie.Need-div-t17
-div-t17 c = search needs
 
 returns-2 : tie.Need-returns-2
 unfolding distortionAnswer
@@ -65,14 +38,14 @@ pub distortion-spec : {M : Type 1} → statement M
 distortion-spec =
     tie.close
     (tie.spec
-    array-read-fundamental
+    (λ c. search needs)
     returns
-    sub-sum-of-squares
-    part-sum-of-squares-start
-    part-sum-of-squares-end
-    sum-of-squares-requires
-    scaled-requires
-    wide-root-requires
-    cast-t16
-    div-t17
+    (λ c. search needs)
+    (λ c. search needs)
+    (λ c. search needs)
+    (λ c κs. search needs)
+    (λ c κs. search needs)
+    (λ c κs. search needs)
+    (λ c. search needs)
+    (λ c. search needs)
     returns-2)

@@ -16,7 +16,7 @@ use Rattle.integers.specs.Wide.{wideLimbs, valueOf, limbsOf}
 use Rattle.integers.proofs.Root.{root-law}
 use Rattle.integers.proofs.Wide.{valueOf-limbsOf-lt}
 use Rattle.rows.specs.Orders.{orderCount}
-use Rattle.groups.specs.Distortion.{sumOfSquares, squaredThousand, distortionDigits, distortionOf}
+use Rattle.distortion.specs.Distortion.{sumOfSquares, squaredThousand, distortionDigits, distortionOf}
 
 -- the square at a place, and those after it
 pub sumOfSquares-drop : (values : List ℕ) (i : ℕ) → i < length values → sumOfSquares (drop i values) ≡ sumOfSquares (drop (i + 1) values) + getD values i 0 * getD values i 0

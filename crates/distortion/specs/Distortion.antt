@@ -1,4 +1,5 @@
 -- Group distortion of a row (document 01, "Groups" and the refusal table's row "distortion").
+use mathlib.Core.Bool.{Bool}
 use mathlib.Core.List.{List, [], _∷_}
 use Prim.Native.Nat.{ℕ, _*_}
 use lib.Dec.{eqb, leb}
@@ -28,6 +29,11 @@ distortionOf values =
     distortionDigits
 
 -- 12 group 1 is 0
+abbrev pub distortionChecks : List ℕ → List (Bool × ℕ)
+distortionChecks values = (eqb (getD values 0 0) 0, noFundamental) ∷ []
+
+abbrev pub distortionRefusal : List ℕ → ℕ
+distortionRefusal values = firstFault (distortionChecks values)
+
 unfoldable pub distortionAnswer : List ℕ → Answer
-distortionAnswer values =
-    answer (firstFault ((eqb (getD values 0 0) 0, noFundamental) ∷ [])) (distortionOf values)
+distortionAnswer values = answer (distortionRefusal values) (distortionOf values)

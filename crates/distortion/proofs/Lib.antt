@@ -1,0 +1,3 @@
+-- The laws of group distortion, and worked distortions.
+pub mod RowDistortion
+pub mod Worked

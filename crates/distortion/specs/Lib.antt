@@ -1,0 +1,2 @@
+-- Group distortion of a row.
+pub mod Distortion

@@ -1,0 +1,51 @@
+-- The lines of a group with their weights (document 01, "Groups", the table of kinds). A group is a span of neighbouring lines: the one place that says which a kind has.
+use mathlib.Core.Bool.{Bool, true, false, cond, _&&_, _||_}
+use mathlib.Core.List.{List}
+use Prim.Native.Nat.{ℕ, _+_, _-_, _*_, _/_}
+use lib.Dec.{eqb}
+use Rattle.algebra.specs.Lists.{tabulate}
+use Rattle.algebra.specs.Weighted.{sumOver}
+use Rattle.groups.specs.declared.Kind.{Kind}
+use Rattle.groups.specs.declared.Kind.the-variants.{Component, HarmonicGroup, HarmonicSubgroup, InterharmonicGroup, InterharmonicCentredSubgroup}
+use Rattle.groups.specs.declared.Span.{Span}
+
+-- so many lines from a first on, all with weight 1
+abbrev pub wholeSpan : ℕ → ℕ → Span
+wholeSpan first count = record { first = first; count = count; «half_ends» = false }
+
+-- the same, but with weight 1/2 at both ends
+abbrev pub halfEndedSpan : ℕ → ℕ → Span
+halfEndedSpan first count = record { first = first; count = count; «half_ends» = true }
+
+-- for a kind, a system n (10 or 12) and an order h; line numbers are counted from n×h
+unfoldable pub spanOf : Kind → ℕ → ℕ → Span
+spanOf Component n h = wholeSpan (n * h) 1
+spanOf HarmonicGroup n h = halfEndedSpan (n * h - n / 2) (n + 1)
+spanOf HarmonicSubgroup n h = wholeSpan (n * h - 1) 3
+spanOf InterharmonicGroup n h = wholeSpan (n * h + 1) (n - 1)
+spanOf InterharmonicCentredSubgroup n h = wholeSpan (n * h + 2) (n - 3)
+
+-- a line of a group: its number in the spectrum, and twice its weight
+pub record Weighted : Type 0 where
+  pub line : ℕ
+  pub twiceWeight : ℕ
+
+-- the place is the first or the last of so many
+abbrev pub isEnd : ℕ → ℕ → Bool
+isEnd count i = eqb i 0 || eqb (i + 1) count
+
+-- twice the weight of a line of a span: 1 at both ends of one with half ends, else 2
+abbrev pub twiceWeightAt : Span → ℕ → ℕ
+twiceWeightAt span i = cond (span .«half_ends» && isEnd (span .count) i) 1 2
+
+-- the lines of a span, one after the other
+unfoldable pub weightsIn : Span → List Weighted
+weightsIn span = tabulate (span .count) (λ i. record { line = span .first + i; twiceWeight = twiceWeightAt span i })
+
+-- those of a group
+abbrev pub weightsOf : Kind → ℕ → ℕ → List Weighted
+weightsOf kind n h = weightsIn (spanOf kind n h)
+
+-- the sum of 2×w×L over some lines, L given by the line's number
+unfoldable pub weightedSum : (ℕ → ℕ) → List Weighted → ℕ
+weightedSum lineAt xs = sumOver (λ x. x .twiceWeight * lineAt (x .line)) xs

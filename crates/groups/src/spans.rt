@@ -1,0 +1,70 @@
+// The span of lines of a group, and the sum over a span.
+use crate::Kind;
+use crate::Span;
+ghost use mathlib.Core.Bool.{true};
+ghost use mathlib.Core.Path.{_≡_};
+ghost use Prim.Native.Nat.{_+_, _^_, _≤_, _<_};
+ghost use lib.ListN.{length};
+ghost use Rattle.rows.specs.Orders.{isOrder};
+ghost use Rattle.rows.specs.Systems.{isSystem};
+ghost use Rattle.groups.specs.Spans.{spanOf, weightsIn, weightedSum};
+ghost use Rattle.groups.specs.Group.{lineAt};
+
+// The lines of a kind, of a system and an order that are known.
+pub(crate) fn span_of(kind: Kind, system: u32, order: u32) -> Span
+    requires { ⌜ isSystem system ≡ true ⌝ }
+    requires { ⌜ isOrder order ≡ true ⌝ }
+    ensures { λ r. ⌜ r ≡ spanOf kind system order ⌝ }
+{
+    let cycles = system as usize;
+    let centre = cycles * order as usize;
+    match kind {
+        Kind::Component => Span {
+            first: centre,
+            count: 1,
+            half_ends: false,
+        },
+        Kind::HarmonicGroup => Span {
+            first: centre - cycles / 2,
+            count: cycles + 1,
+            half_ends: true,
+        },
+        Kind::HarmonicSubgroup => Span {
+            first: centre - 1,
+            count: 3,
+            half_ends: false,
+        },
+        Kind::InterharmonicGroup => Span {
+            first: centre + 1,
+            count: cycles - 1,
+            half_ends: false,
+        },
+        Kind::InterharmonicCentredSubgroup => Span {
+            first: centre + 2,
+            count: cycles - 3,
+            half_ends: false,
+        },
+    }
+}
+
+// The sum of 2×w×L over the lines of a span. Each line is added once, and that sum counts twice, less
+// the first line and the last where their weight is 1/2.
+pub(crate) fn span_sum(lines: &[u64], span: Span) -> u64
+    requires { ⌜ span .first + span .count ≤ length (now lines) ⌝ }
+    requires { ⌜ (span .«half_ends» ≡ true → 2 ≤ span .count) ⌝ }
+    requires { ⌜ weightedSum (lineAt (now lines)) (weightsIn span) < 2 ^ 64 ⌝ }
+    ensures { λ r. ⌜ r ≡ weightedSum (lineAt (now (lines .entry))) (weightsIn span) ⌝ }
+{
+    let first = span.first;
+    let count = span.count;
+    let mut sum: u64 = 0;
+    let mut i = 0;
+    while i < count {
+        sum += lines[first + i];
+        i += 1;
+    }
+    if span.half_ends {
+        return (sum - lines[first]) + (sum - lines[first + (count - 1)]);
+    }
+    sum + sum
+}
