@@ -29,7 +29,7 @@ use Rattle.observation.specs.RecordAfter.{recordAfter}
 use Rattle.observation.proofs.SoundRecord.{sound-parts, empty-record-sound, fresh-of-known, with-row-sound, accepted-call, addRowAnswer-accepted, addRowRefusal-own}
 use Rattle.observation.proofs.RecordAfter.{record-after-tabulate}
 use Rattle.observation.proofs.RecordBooks.{answer-system}
-use Rattle.observe.specs.GroupRow.{groupRowRefusal, windowRow}
+use Rattle.groups.specs.Group.{groupRowRefusal, windowRow}
 use Rattle.observe.specs.Observe.{windowStart, windowRows, addWindowChecks, observeChecks, observeRefusal, observeAnswer}
 use Rattle.observe.specs.Calls.{lentLines, windowCalls, callsAfter}
 use Rattle.observe.proofs.WindowCalls.{spectrumRefusal-lent, groupRowRefusal-window, windowRow-fits, windowRow-system, Answered, windowCalls-answered}

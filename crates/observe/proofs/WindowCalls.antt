@@ -14,19 +14,17 @@ use Rattle.rows.specs.Systems.{isSystem}
 use Rattle.rows.specs.Rows.{refusedRow, ValuesFit}
 use Rattle.rows.specs.declared.Row.{Row}
 use Rattle.rows.specs.declared.RowAnswer.{RowAnswer}
-use Rattle.rows.proofs.Orders.{order-of-place}
 use Rattle.spectrum.specs.Line.{lineCount, windowAt, linesOf}
 use Rattle.spectrum.specs.Spectrum.{shortCheck, rangeCheck, spectrumRefusal, spectrumExit}
 use Rattle.spectrum.proofs.Lines.{length-linesOf, no-line-too-large}
 use Rattle.groups.specs.declared.Kind.{Kind}
-use Rattle.groups.specs.Group.{groupRefusal}
-use Rattle.groups.proofs.GroupSum.{group-values-le}
+use Rattle.groups.proofs.GroupSum.{groupValues-le}
 use Rattle.observation.specs.declared.Observation.{Observation}
 use Rattle.observation.specs.declared.RecordAnswer.{RecordAnswer}
 use Rattle.observation.specs.Soundness.{isSound, mostWindows}
 use Rattle.observation.specs.Calls.{addRowAnswer}
 use Rattle.observation.proofs.SoundRecord.{sound-parts, addRowRefusal-own}
-use Rattle.observe.specs.GroupRow.{groupRowRefusal, groupRowAnswer, windowRow}
+use Rattle.groups.specs.Group.{groupRowRefusal, groupRowAnswer, windowRow}
 use Rattle.observe.specs.Observe.{addWindowChecks}
 use Rattle.observe.specs.Calls.{lentLines, rowCalls, windowCalls}
 
@@ -41,12 +39,11 @@ spectrumRefusal-lent recording at = refl
 pub groupRowRefusal-window :
     (system : ℕ) (recording : List ℤ) (at : ℕ) → isSystem system ≡ true → rangeCheck recording at .0 ≡ false →
     groupRowRefusal system (linesOf (windowAt recording at)) ≡ noRefusal
-unfolding groupRowRefusal groupRefusal
+unfolding groupRowRefusal
 groupRowRefusal-window system recording at known in-range =
     let window = windowAt recording at in
     rw (
       known,
-      order-of-place 0 (omega arith),
       eq-eqb (length (linesOf window)) lineCount (length-linesOf window),
       no-line-too-large window in-range,
     )
@@ -54,7 +51,7 @@ groupRowRefusal-window system recording at known in-range =
 -- the values of a window's row have 32 bits
 pub windowRow-fits : (kind : Kind) (system : ℕ) (window : List ℤ) → ValuesFit (windowRow kind system window)
 unfolding ValuesFit windowRow
-windowRow-fits kind system window = group-values-le kind system (linesOf window)
+windowRow-fits kind system window = groupValues-le kind system (linesOf window)
 
 pub windowRow-system : (kind : Kind) (system : ℕ) (window : List ℤ) → windowRow kind system window .system ≡ system
 unfolding windowRow

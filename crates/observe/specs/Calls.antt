@@ -12,7 +12,7 @@ use Rattle.groups.specs.declared.Kind.{Kind}
 use Rattle.observation.specs.declared.Observation.{Observation}
 use Rattle.observation.specs.declared.RecordAnswer.{RecordAnswer}
 use Rattle.observation.specs.Calls.{freshAnswer, addRowAnswer}
-use Rattle.observe.specs.GroupRow.{groupRowAnswer}
+use Rattle.groups.specs.Group.{groupRowAnswer}
 use Rattle.observe.specs.Observe.{windowStart}
 
 -- the lines that a call is lent

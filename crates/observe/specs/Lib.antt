@@ -1,4 +1,3 @@
 -- From the samples of windows to the record after them.
-pub mod GroupRow
 pub mod Observe
 pub mod Calls

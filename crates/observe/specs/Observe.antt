@@ -17,7 +17,7 @@ use Rattle.observation.specs.declared.RecordAnswer.{RecordAnswer}
 use Rattle.observation.specs.Soundness.{mostWindows}
 use Rattle.observation.specs.Calls.{emptyRecord, refusedRecord}
 use Rattle.observation.specs.RecordAfter.{recordAfter}
-use Rattle.observe.specs.GroupRow.{windowRow}
+use Rattle.groups.specs.Group.{windowRow}
 
 -- where window i begins
 abbrev pub windowStart : ℕ → ℕ → ℕ

@@ -1,7 +1,7 @@
 // From the samples of windows back to back to the record after them, by the calls that a user would
 // make in turn. The first call that is refused decides.
 use groups::Kind;
-use groups::group_values;
+use groups::group_row;
 use observation::Observation;
 use observation::RecordAnswer;
 use observation::add_row;
@@ -15,40 +15,9 @@ use spectrum::LINE_COUNT;
 use spectrum::WINDOW_LENGTH;
 use spectrum::spectrum;
 ghost use mathlib.Core.Path.{_≡_};
-ghost use Rattle.rows.specs.Rows.{refusedRow};
 ghost use Rattle.observation.specs.Calls.{refusedRecord};
-ghost use Rattle.observe.specs.GroupRow.{groupRowAnswer};
 ghost use Rattle.observe.specs.Observe.{observeAnswer};
 ghost use Rattle.observe.specs.Calls.{rowCalls, windowCalls};
-
-// A row that is refused: zeros, of system 10.
-fn refused_row(refusal: u32) -> RowAnswer
-    ensures { λ r. ⌜ r ≡ record { refusal = refusal; row = refusedRow } ⌝ }
-{
-    RowAnswer {
-        refusal,
-        row: Row {
-            system: REFUSED_SYSTEM,
-            values: [0; ORDER_COUNT],
-        },
-    }
-}
-
-// The values of the orders 1..40 as a row.
-fn group_row(kind: Kind, system: u32, lines: &[u64]) -> RowAnswer
-    ensures { λ r. ⌜ r ≡ groupRowAnswer kind system (now (lines .entry)) ⌝ }
-{
-    let answer = group_values(kind, system, lines);
-    let refusal = answer.refusal;
-    let values = answer.values;
-    if refusal != NO_REFUSAL {
-        return refused_row(refusal);
-    }
-    RowAnswer {
-        refusal,
-        row: Row { system, values },
-    }
-}
 
 // The row of the window that begins at `at`.
 fn row_at(recording: &[i32], at: usize, system: u32, kind: Kind) -> RowAnswer
@@ -57,7 +26,11 @@ fn row_at(recording: &[i32], at: usize, system: u32, kind: Kind) -> RowAnswer
     let mut lines = [0; LINE_COUNT];
     let refusal = spectrum(recording, at, &mut lines);
     if refusal != NO_REFUSAL {
-        return refused_row(refusal);
+        let row = Row {
+            system: REFUSED_SYSTEM,
+            values: [0; ORDER_COUNT],
+        };
+        return RowAnswer { refusal, row };
     }
     group_row(kind, system, &lines)
 }
