@@ -1,2 +1,3 @@
 -- The laws of a row of checks.
 pub mod Answers
+pub mod Appended

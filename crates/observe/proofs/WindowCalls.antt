@@ -1,0 +1,105 @@
+-- The calls for one window and a sound record: they are refused for what the definition says, and add the window's row where they are accepted.
+use mathlib.Core.Path.{_≡_, refl, ap, _∙_}
+use mathlib.Core.Bool.{Bool, true, false}
+use mathlib.Core.List.{List, [], _∷_}
+use Prim.Native.Nat.{ℕ}
+use native.Mathlib.Omega.{arith}
+use borrow.Author.Tests.{eq-eqb}
+use lib.Dec.{leb}
+use lib.IntN.{ℤ}
+use lib.ListN.{length}
+use Rattle.refusals.specs.Numbers.{noRefusal, shortWindow, sampleOutOfRange, recordFull}
+use Rattle.refusals.specs.Answers.{firstFault}
+use Rattle.rows.specs.Systems.{isSystem}
+use Rattle.rows.specs.Rows.{refusedRow, ValuesFit}
+use Rattle.rows.specs.declared.Row.{Row}
+use Rattle.rows.specs.declared.RowAnswer.{RowAnswer}
+use Rattle.spectrum.specs.Line.{lineCount, windowAt, linesOf}
+use Rattle.spectrum.specs.Spectrum.{shortCheck, rangeCheck, spectrumRefusal, spectrumExit}
+use Rattle.spectrum.proofs.Lines.{length-linesOf, no-line-too-large}
+use Rattle.groups.specs.declared.Kind.{Kind}
+use Rattle.groups.proofs.GroupSum.{groupValues-le}
+use Rattle.observation.specs.declared.Observation.{Observation}
+use Rattle.observation.specs.declared.RecordAnswer.{RecordAnswer}
+use Rattle.observation.specs.Soundness.{isSound, mostWindows}
+use Rattle.observation.specs.Calls.{addRowAnswer}
+use Rattle.observation.proofs.SoundRecord.{sound-parts, addRowRefusal-own}
+use Rattle.groups.specs.Group.{groupRowRefusal, groupRowAnswer, windowRow}
+use Rattle.observe.specs.Observe.{addWindowChecks}
+use Rattle.observe.specs.Calls.{lentLines, rowCalls, windowCalls}
+
+-- the buffer that is lent has 512 lines, so `spectrum` tests the window alone
+pub spectrumRefusal-lent :
+    (recording : List ℤ) (at : ℕ) →
+    spectrumRefusal recording at lentLines ≡ firstFault (shortCheck recording at ∷ rangeCheck recording at ∷ [])
+unfolding spectrumRefusal
+spectrumRefusal-lent recording at = refl
+
+-- the lines of a window in range are never refused
+pub groupRowRefusal-window :
+    (system : ℕ) (recording : List ℤ) (at : ℕ) → isSystem system ≡ true → rangeCheck recording at .0 ≡ false →
+    groupRowRefusal system (linesOf (windowAt recording at)) ≡ noRefusal
+unfolding groupRowRefusal
+groupRowRefusal-window system recording at known in-range =
+    let window = windowAt recording at in
+    rw (
+      known,
+      eq-eqb (length (linesOf window)) lineCount (length-linesOf window),
+      no-line-too-large window in-range,
+    )
+
+-- the values of a window's row have 32 bits
+pub windowRow-fits : (kind : Kind) (system : ℕ) (window : List ℤ) → ValuesFit (windowRow kind system window)
+unfolding ValuesFit windowRow
+windowRow-fits kind system window = groupValues-le kind system (linesOf window)
+
+pub windowRow-system : (kind : Kind) (system : ℕ) (window : List ℤ) → windowRow kind system window .system ≡ system
+unfolding windowRow
+windowRow-system kind system window = refl
+
+module _ (kind : Kind) (system : ℕ) (recording : List ℤ) (at : ℕ) where
+  rowCalls-short : shortCheck recording at .0 ≡ true → rowCalls kind system recording at ≡ record { refusal = shortWindow; row = refusedRow }
+  unfolding rowCalls
+  rowCalls-short short = rw (spectrumRefusal-lent recording at, short)
+
+  rowCalls-out :
+      shortCheck recording at .0 ≡ false → rangeCheck recording at .0 ≡ true →
+      rowCalls kind system recording at ≡ record { refusal = sampleOutOfRange; row = refusedRow }
+  unfolding rowCalls
+  rowCalls-out whole out = rw (spectrumRefusal-lent recording at, whole, out)
+
+  rowCalls-taken :
+      isSystem system ≡ true → shortCheck recording at .0 ≡ false → rangeCheck recording at .0 ≡ false →
+      rowCalls kind system recording at ≡ record { refusal = noRefusal; row = windowRow kind system (windowAt recording at) }
+  unfolding rowCalls spectrumExit groupRowAnswer windowRow
+  rowCalls-taken known whole in-range =
+      rw (spectrumRefusal-lent recording at, whole, in-range, groupRowRefusal-window system recording at known in-range)
+
+module _ (kind : Kind) (recording : List ℤ) (at : ℕ) (o : Observation) (sound : isSound o ≡ true) where
+  abbrev rowAdded : Row
+  rowAdded = windowRow kind (o .system) (windowAt recording at)
+
+  -- what the calls answer, and the record that they leave where they are accepted
+  pub record Answered (answer : RecordAnswer) : Type 0 where
+    pub refusal-is : answer .refusal ≡ firstFault (addWindowChecks recording at (o .windows))
+    pub record-is : answer .refusal ≡ noRefusal → answer .observation ≡ addRowAnswer o rowAdded .observation
+
+  pub windowCalls-answered : Answered (windowCalls kind recording at o)
+  unfolding windowCalls addRowAnswer
+  windowCalls-answered = by-tests (shortCheck recording at .0) (rangeCheck recording at .0) refl refl
+    where
+      by-tests :
+          (short out : Bool) → shortCheck recording at .0 ≡ short → rangeCheck recording at .0 ≡ out →
+          Answered (windowCalls kind recording at o)
+      by-tests true out e f =
+          rw (rowCalls-short kind (o .system) recording at e)
+          (record { refusal-is = rw e; record-is = λ none. absurd (omega arith) })
+      by-tests false true e f =
+          rw (rowCalls-out kind (o .system) recording at e f)
+          (record { refusal-is = rw (e, f); record-is = λ none. absurd (omega arith) })
+      by-tests false false e f =
+          rw (rowCalls-taken kind (o .system) recording at (sound-parts o sound .system-known) e f)
+          (record {
+            refusal-is = addRowRefusal-own o rowAdded sound (windowRow-system kind (o .system) _) ∙ rw (e, f);
+            record-is = λ none. refl;
+          })

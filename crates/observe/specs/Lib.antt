@@ -1,0 +1,3 @@
+-- From the samples of windows to the record after them.
+pub mod Observe
+pub mod Calls

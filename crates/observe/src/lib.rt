@@ -1,0 +1,98 @@
+// From the samples of windows back to back to the record after them, by the calls that a user would
+// make in turn. The first call that is refused decides.
+use groups::Kind;
+use groups::group_row;
+use observation::Observation;
+use observation::RecordAnswer;
+use observation::add_row;
+use observation::fresh_record;
+use refusals::NO_REFUSAL;
+use rows::ORDER_COUNT;
+use rows::REFUSED_SYSTEM;
+use rows::Row;
+use rows::RowAnswer;
+use spectrum::LINE_COUNT;
+use spectrum::WINDOW_LENGTH;
+use spectrum::spectrum;
+ghost use mathlib.Core.Path.{_≡_};
+ghost use Rattle.observation.specs.Calls.{refusedRecord};
+ghost use Rattle.observe.specs.Observe.{observeAnswer};
+ghost use Rattle.observe.specs.Calls.{rowCalls, windowCalls};
+
+// The row of the window that begins at `at`.
+fn row_at(recording: &[i32], at: usize, system: u32, kind: Kind) -> RowAnswer
+    ensures { λ r. ⌜ r ≡ rowCalls kind system (now (recording .entry)) at ⌝ }
+{
+    let mut lines = [0; LINE_COUNT];
+    let refusal = spectrum(recording, at, &mut lines);
+    if refusal != NO_REFUSAL {
+        let row = Row {
+            system: REFUSED_SYSTEM,
+            values: [0; ORDER_COUNT],
+        };
+        return RowAnswer { refusal, row };
+    }
+    group_row(kind, system, &lines)
+}
+
+// The record with that row added, or the refusal with the record unchanged.
+fn add_window(observation: Observation, recording: &[i32], at: usize, kind: Kind) -> RecordAnswer
+    ensures { λ r. ⌜ r ≡ windowCalls kind (now (recording .entry)) at observation ⌝ }
+{
+    let answer = row_at(recording, at, observation.system, kind);
+    let refusal = answer.refusal;
+    let row = answer.row;
+    if refusal != NO_REFUSAL {
+        return RecordAnswer {
+            refusal,
+            observation,
+        };
+    }
+    add_row(observation, row)
+}
+
+// A refusal with the record of a refused fresh_record: system 10, zeros.
+fn refused_record(refusal: u32) -> RecordAnswer
+    ensures { λ r. ⌜ r ≡ record { refusal = refusal; observation = refusedRecord } ⌝ }
+{
+    let fresh = fresh_record(REFUSED_SYSTEM);
+    let observation = fresh.observation;
+    RecordAnswer {
+        refusal,
+        observation,
+    }
+}
+
+// The record after `windows` windows back to back, the first of which begins at `start`, by the
+// groups of one kind. Refused: 1 unknown system; then window by window 2 fewer than 2,048 samples
+// from its start, 3 a sample out of range, 9 45,000 windows held.
+pub fn observe(
+    recording: &[i32],
+    start: usize,
+    windows: usize,
+    system: u32,
+    kind: Kind,
+) -> RecordAnswer
+    ensures { λ r. ⌜ r ≡ observeAnswer kind system (now (recording .entry)) start windows ⌝ }
+{
+    let fresh = fresh_record(system);
+    if fresh.refusal != NO_REFUSAL {
+        return fresh;
+    }
+    let mut after = fresh.observation;
+    let mut at = start;
+    let mut i = 0;
+    while i < windows {
+        let answer = add_window(after, recording, at, kind);
+        if answer.refusal != NO_REFUSAL {
+            return refused_record(answer.refusal);
+        }
+        after = answer.observation;
+        at += WINDOW_LENGTH;
+        i += 1;
+    }
+    RecordAnswer {
+        refusal: NO_REFUSAL,
+        observation: after,
+    }
+}
