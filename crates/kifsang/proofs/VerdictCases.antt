@@ -1,15 +1,17 @@
--- What the two cases of a verdict's answer say of the call.
-use mathlib.Core.Path.{_≡_, refl}
+-- What a verdict's answer says of the call, and what the caller receives of it.
+use mathlib.Core.Path.{_≡_, refl, sym}
 use mathlib.Core.Bool.{Bool, true, false, cond}
 use Prim.Native.Nat.{ℕ}
 use native.Mathlib.Omega.{arith}
 use lib.Dec.{eqb}
 use borrow.Author.Tests.{eqb-true}
 use Rattle.refusals.specs.Numbers.{noRefusal}
+use Rattle.refusals.specs.Answers.{unlessRefused}
 use Rattle.observation.specs.declared.Observation.{Observation}
 use Rattle.verdict.specs.declared.Verdict.{Verdict}
 use Rattle.verdict.specs.declared.Answered.the-variants.{Given, Refused}
-use Rattle.verdict.specs.Call.{verdictOf, verdictRefusal, verdictAnswer}
+use Rattle.verdict.specs.Call.{verdictOf, verdictRefusal, verdictAnswer, refusalNumber}
+use Rattle.kifsang.specs.RecordCalls.{verdictNumber, numberLeft}
 
 module _ (o : Observation) (order unitsPerAmpere : ℕ) where
   -- the call is not refused, and the verdict is the order's
@@ -21,11 +23,21 @@ module _ (o : Observation) (order unitsPerAmpere : ℕ) where
       go true p e = (eqb-true _ _ p, cc)
       go false p e = let z : _≡_ {A = ℕ} 0 1 = cc in absurd (omega arith)
 
-  -- the call is refused with the number
-  pub refused-case : (n : ℕ) → verdictAnswer o order unitsPerAmpere ≡ Refused n → (n ≡ verdictRefusal o order unitsPerAmpere) × (eqb (verdictRefusal o order unitsPerAmpere) noRefusal ≡ false)
-  unfolding verdictAnswer
-  refused-case n = go (eqb (verdictRefusal o order unitsPerAmpere) noRefusal) refl
+  -- what the caller receives of the answer
+  pub verdict-received :
+      (before : ℕ) →
+      (refusalNumber (verdictAnswer o order unitsPerAmpere) ≡ verdictRefusal o order unitsPerAmpere)
+      × (numberLeft (verdictAnswer o order unitsPerAmpere) before
+      ≡ unlessRefused (verdictRefusal o order unitsPerAmpere) (verdictNumber (verdictOf o order unitsPerAmpere)) before)
+  unfolding verdictAnswer refusalNumber numberLeft
+  verdict-received before = by-test (eqb (verdictRefusal o order unitsPerAmpere) noRefusal) refl
     where
-      go : (worked : Bool) → eqb (verdictRefusal o order unitsPerAmpere) noRefusal ≡ worked → cond worked (Given (verdictOf o order unitsPerAmpere)) (Refused (verdictRefusal o order unitsPerAmpere)) ≡ Refused n → (n ≡ verdictRefusal o order unitsPerAmpere) × (eqb (verdictRefusal o order unitsPerAmpere) noRefusal ≡ false)
-      go true p e = let z : _≡_ {A = ℕ} 0 1 = cc in absurd (omega arith)
-      go false p e = (cc, p)
+      by-test :
+          (accepted : Bool) →
+          eqb (verdictRefusal o order unitsPerAmpere) noRefusal ≡ accepted →
+          (refusalNumber (cond accepted (Given (verdictOf o order unitsPerAmpere)) (Refused (verdictRefusal o order unitsPerAmpere)))
+          ≡ verdictRefusal o order unitsPerAmpere)
+          × (numberLeft (cond accepted (Given (verdictOf o order unitsPerAmpere)) (Refused (verdictRefusal o order unitsPerAmpere))) before
+          ≡ cond accepted (verdictNumber (verdictOf o order unitsPerAmpere)) before)
+      by-test true e = (sym (eqb-true _ _ e), refl)
+      by-test false e = (refl, refl)
