@@ -2,7 +2,6 @@
 pub mod Refusals
 pub mod Kinds
 pub mod GroupCalls
-pub mod Words
 pub mod RecordCalls
 pub mod ColumnCalls
 pub mod ListingCall

@@ -8,9 +8,11 @@ use Rattle.observation.specs.Calls.{emptyRecord, freshRefusal, withRow, addRowR
 use Rattle.verdict.specs.declared.Question.{Question}
 use Rattle.verdict.specs.declared.Verdict.{Verdict}
 use Rattle.verdict.specs.declared.Verdict.the-variants.{Within, Close, Over}
+use Rattle.verdict.specs.declared.Answered.{Answered}
+use Rattle.verdict.specs.declared.Answered.the-variants.{Given, Refused}
 use Rattle.verdict.specs.Call.{verdictOf, verdictRefusal}
 use Rattle.kifsang.specs.Refusals.{ownFirst, wordCountCheck}
-use Rattle.kifsang.specs.Words.{recordWords, recordOf, wordsOf}
+use Rattle.record_words.specs.Words.{recordWords, recordOf, wordsOf}
 
 -- 102; then the row "fresh record"
 unfoldable pub freshCallRefusal : ℕ → List ℕ → ℕ
@@ -44,6 +46,11 @@ unfoldable pub verdictNumber : Verdict → ℕ
 verdictNumber (Within order) = 1
 verdictNumber (Close order) = 2
 verdictNumber (Over order) = 3
+
+-- the number that an answer leaves in place of another
+unfoldable pub numberLeft : Answered → ℕ → ℕ
+numberLeft (Given verdict) before = verdictNumber verdict
+numberLeft (Refused refusal) before = before
 
 -- 102; then the row "verdict"
 unfoldable pub verdictCallRefusal : List ℕ → Question → ℕ

@@ -12,12 +12,11 @@ pub extern "C" fn kifsang_read_column(text: &[u8], number: &mut i64) -> u32
 {
     let column = columns::read_column(text);
     let refusal = column.refusal;
-    if refusal != NO_REFUSAL {
-        return refusal;
-    }
     let value = column.value;
-    *number = value;
-    NO_REFUSAL
+    if refusal == NO_REFUSAL {
+        *number = value;
+    }
+    refusal
 }
 
 // Writes the column of a number into 8 bytes.

@@ -2,10 +2,12 @@
 use crate::UNKNOWN_KIND;
 use crate::WRONG_WORD_COUNT;
 use crate::words::hand_over;
-use crate::words::hand_over_values;
-use crate::words::row_values;
+use crate::words::hand_over_row;
 use groups::Kind;
+use refusals::NO_REFUSAL;
+use refusals::fault_or;
 use rows::ORDER_COUNT;
+use rows::first_values;
 ghost use mathlib.Core.Path.{_≡_};
 ghost use Rattle.kifsang.specs.Kinds.{isKind, kindWith};
 ghost use Rattle.kifsang.specs.GroupCalls.{groupCallRefusal, groupCallExit, rowCallRefusal, rowCallExit, distortionCallRefusal, distortionCallExit};
@@ -44,11 +46,14 @@ pub extern "C" fn kifsang_group_value(
     ensures { λ r. ⌜ r ≡ groupCallRefusal kind system order (now (lines .entry)) ⌝ }
     ensures { λ _. ⌜ now (value .exit) ≡ groupCallExit kind system order (now (lines .entry)) (now (value .entry)) ⌝ }
 {
-    if !is_kind(kind) {
-        return UNKNOWN_KIND;
+    let own = fault_or(!is_kind(kind), UNKNOWN_KIND, NO_REFUSAL);
+    if own != NO_REFUSAL {
+        return own;
     }
-    let answer = groups::group_value(kind_with(kind), system, order, lines);
-    hand_over(answer, value)
+    hand_over(
+        groups::group_value(kind_with(kind), system, order, lines),
+        value,
+    )
 }
 
 // Writes the 40 values of a kind.
@@ -57,13 +62,17 @@ pub extern "C" fn kifsang_row(kind: u32, system: u32, lines: &[u64], values: &mu
     ensures { λ r. ⌜ r ≡ rowCallRefusal kind system (now (lines .entry)) (now (values .entry)) ⌝ }
     ensures { λ _. ⌜ now (values .exit) ≡ rowCallExit kind system (now (lines .entry)) (now (values .entry)) ⌝ }
 {
-    if !is_kind(kind) {
-        return UNKNOWN_KIND;
+    let wrong_count = values.len() != ORDER_COUNT;
+    let own = fault_or(
+        !is_kind(kind),
+        UNKNOWN_KIND,
+        fault_or(wrong_count, WRONG_WORD_COUNT, NO_REFUSAL),
+    );
+    if own != NO_REFUSAL {
+        return own;
     }
-    if values.len() != ORDER_COUNT {
-        return WRONG_WORD_COUNT;
-    }
-    hand_over_values(groups::group_values(kind_with(kind), system, lines), values)
+    let answer = groups::group_values(kind_with(kind), system, lines);
+    hand_over_row(answer.refusal, &answer.values, values)
 }
 
 // Writes the distortion of a row, in parts per thousand.
@@ -72,8 +81,9 @@ pub extern "C" fn kifsang_distortion(values: &[u32], parts_per_thousand: &mut u6
     ensures { λ r. ⌜ r ≡ distortionCallRefusal (now (values .entry)) ⌝ }
     ensures { λ _. ⌜ now («parts_per_thousand» .exit) ≡ distortionCallExit (now (values .entry)) (now («parts_per_thousand» .entry)) ⌝ }
 {
-    if values.len() != ORDER_COUNT {
-        return WRONG_WORD_COUNT;
+    let own = fault_or(values.len() != ORDER_COUNT, WRONG_WORD_COUNT, NO_REFUSAL);
+    if own != NO_REFUSAL {
+        return own;
     }
-    hand_over(groups::distortion(row_values(values)), parts_per_thousand)
+    hand_over(groups::distortion(first_values(values)), parts_per_thousand)
 }

@@ -1,8 +1,10 @@
 // The listing, for callers in other languages.
 use crate::WRONG_WORD_COUNT;
 use crate::words::hand_over;
-use crate::words::row_values;
+use refusals::NO_REFUSAL;
+use refusals::fault_or;
 use rows::ORDER_COUNT;
+use rows::first_values;
 ghost use mathlib.Core.Path.{_≡_};
 ghost use Rattle.kifsang.specs.ListingCall.{listingCallRefusal, listingCallExit, listingCallCountExit};
 
@@ -19,18 +21,19 @@ pub extern "C" fn kifsang_fill_listing(
     ensures { λ _. ⌜ now (buffer .exit) ≡ listingCallExit (now (group .entry)) (now (subgroup .entry)) (now (smoothed .entry)) (now (buffer .entry)) ⌝ }
     ensures { λ _. ⌜ now (written .exit) ≡ listingCallCountExit (now (group .entry)) (now (subgroup .entry)) (now (smoothed .entry)) (now (buffer .entry)) (now (written .entry)) ⌝ }
 {
-    if group.len() != ORDER_COUNT {
-        return WRONG_WORD_COUNT;
+    let wrong_smoothed = fault_or(smoothed.len() != ORDER_COUNT, WRONG_WORD_COUNT, NO_REFUSAL);
+    let wrong_subgroup = fault_or(
+        subgroup.len() != ORDER_COUNT,
+        WRONG_WORD_COUNT,
+        wrong_smoothed,
+    );
+    let own = fault_or(group.len() != ORDER_COUNT, WRONG_WORD_COUNT, wrong_subgroup);
+    if own != NO_REFUSAL {
+        return own;
     }
-    if subgroup.len() != ORDER_COUNT {
-        return WRONG_WORD_COUNT;
-    }
-    if smoothed.len() != ORDER_COUNT {
-        return WRONG_WORD_COUNT;
-    }
-    let group_values = row_values(group);
-    let subgroup_values = row_values(subgroup);
-    let smoothed_values = row_values(smoothed);
+    let group_values = first_values(group);
+    let subgroup_values = first_values(subgroup);
+    let smoothed_values = first_values(smoothed);
     let answer = columns::fill_listing(&group_values, &subgroup_values, &smoothed_values, buffer);
     hand_over(answer, written)
 }

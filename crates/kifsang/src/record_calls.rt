@@ -1,21 +1,21 @@
 // The observation record and its verdicts, for callers in other languages.
 use crate::WRONG_WORD_COUNT;
-use crate::record_words::RECORD_WORDS;
-use crate::record_words::counts_fit;
-use crate::record_words::hand_over_record;
-use crate::record_words::read_record;
-use crate::words::row_values;
+use record_words::RECORD_WORDS;
+use record_words::hand_over_record;
+use record_words::read_record;
 use refusals::NO_REFUSAL;
-use refusals::UNSOUND_RECORD;
+use refusals::fault_or;
 use rows::ORDER_COUNT;
 use rows::Row;
+use rows::first_values;
 use verdict::Question;
 use verdict::Verdict;
 use verdict::VerdictAnswer;
 use verdict::order_verdict;
 ghost use mathlib.Core.Path.{_≡_};
 ghost use Rattle.verdict.specs.Question.{asked};
-ghost use Rattle.kifsang.specs.RecordCalls.{freshCallRefusal, freshCallExit, addRowCallRefusal, addRowCallExit, verdictNumber, verdictCallRefusal, verdictCallExit};
+ghost use Rattle.verdict.specs.Call.{refusalNumber};
+ghost use Rattle.kifsang.specs.RecordCalls.{numberLeft, freshCallRefusal, freshCallExit, addRowCallRefusal, addRowCallExit, verdictNumber, verdictCallRefusal, verdictCallExit};
 
 // Writes a record of a system with zeros.
 #[no_mangle]
@@ -23,8 +23,9 @@ pub extern "C" fn kifsang_fresh_record(system: u32, words: &mut [u64]) -> u32
     ensures { λ r. ⌜ r ≡ freshCallRefusal system (now (words .entry)) ⌝ }
     ensures { λ _. ⌜ now (words .exit) ≡ freshCallExit system (now (words .entry)) ⌝ }
 {
-    if words.len() != RECORD_WORDS {
-        return WRONG_WORD_COUNT;
+    let own = fault_or(words.len() != RECORD_WORDS, WRONG_WORD_COUNT, NO_REFUSAL);
+    if own != NO_REFUSAL {
+        return own;
     }
     hand_over_record(observation::fresh_record(system), words)
 }
@@ -35,22 +36,17 @@ pub extern "C" fn kifsang_add_row(words: &mut [u64], system: u32, values: &[u32]
     ensures { λ r. ⌜ r ≡ addRowCallRefusal (now (words .entry)) system (now (values .entry)) ⌝ }
     ensures { λ _. ⌜ now (words .exit) ≡ addRowCallExit (now (words .entry)) system (now (values .entry)) ⌝ }
 {
-    if words.len() != RECORD_WORDS {
-        return WRONG_WORD_COUNT;
+    let wrong_row = fault_or(values.len() != ORDER_COUNT, WRONG_WORD_COUNT, NO_REFUSAL);
+    let own = fault_or(words.len() != RECORD_WORDS, WRONG_WORD_COUNT, wrong_row);
+    if own != NO_REFUSAL {
+        return own;
     }
-    if values.len() != ORDER_COUNT {
-        return WRONG_WORD_COUNT;
-    }
-    if !counts_fit(words) {
-        return UNSOUND_RECORD;
-    }
-    let record_before = read_record(words);
-    let lent_values = row_values(values);
+    let observation = read_record(words);
     let row = Row {
         system,
-        values: lent_values,
+        values: first_values(values),
     };
-    hand_over_record(observation::add_row(record_before, row), words)
+    hand_over_record(observation::add_row(observation, row), words)
 }
 
 // The number of each case of a verdict. 0 is none, so that a variable that was zeroed and that no
@@ -65,20 +61,11 @@ fn verdict_number(verdict: Verdict) -> u32
     }
 }
 
-// Writes the number of the verdict of an order.
-#[no_mangle]
-pub extern "C" fn kifsang_verdict(words: &[u64], order: u32, scale: u32, verdict: &mut u32) -> u32
-    ensures { λ r. ⌜ r ≡ verdictCallRefusal (now (words .entry)) (asked order scale) ⌝ }
-    ensures { λ _. ⌜ now (verdict .exit) ≡ verdictCallExit (now (words .entry)) (asked order scale) (now (verdict .entry)) ⌝ }
+// Hands an answered verdict to the caller: its number, unless it is a refusal, and the refusal's.
+fn hand_over_verdict(answer: VerdictAnswer, verdict: &mut u32) -> u32
+    ensures { λ r. ⌜ r ≡ refusalNumber answer ⌝ }
+    ensures { λ _. ⌜ now (verdict .exit) ≡ numberLeft answer (now (verdict .entry)) ⌝ }
 {
-    if words.len() != RECORD_WORDS {
-        return WRONG_WORD_COUNT;
-    }
-    if !counts_fit(words) {
-        return UNSOUND_RECORD;
-    }
-    let question = Question { order, scale };
-    let answer = order_verdict(read_record(words), question);
     match answer {
         VerdictAnswer::Given(given) => {
             *verdict = verdict_number(given);
@@ -86,4 +73,18 @@ pub extern "C" fn kifsang_verdict(words: &[u64], order: u32, scale: u32, verdict
         }
         VerdictAnswer::Refused(refusal) => refusal,
     }
+}
+
+// Writes the number of the verdict of an order.
+#[no_mangle]
+pub extern "C" fn kifsang_verdict(words: &[u64], order: u32, scale: u32, verdict: &mut u32) -> u32
+    ensures { λ r. ⌜ r ≡ verdictCallRefusal (now (words .entry)) (asked order scale) ⌝ }
+    ensures { λ _. ⌜ now (verdict .exit) ≡ verdictCallExit (now (words .entry)) (asked order scale) (now (verdict .entry)) ⌝ }
+{
+    let own = fault_or(words.len() != RECORD_WORDS, WRONG_WORD_COUNT, NO_REFUSAL);
+    if own != NO_REFUSAL {
+        return own;
+    }
+    let answer = order_verdict(read_record(words), Question { order, scale });
+    hand_over_verdict(answer, verdict)
 }

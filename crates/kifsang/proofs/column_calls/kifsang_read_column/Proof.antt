@@ -1,29 +1,24 @@
 -- `kifsang::column_calls::kifsang_read_column` meets its contract, by whether the text is a column.
-use mathlib.Core.Path.{_≡_, _∙_}
+use mathlib.Core.Path.{_≡_, refl}
 use borrow.Author.Needs.{needs}
+use borrow.Author.Tests.{ne-eqb}
 use mir.Syntax.{w64}
 use mir.Val.{toZ, ofZ}
-use Rattle.kifsang.proofs.ColumnCases.{column-refused, column-taken}
+use Rattle.refusals.specs.Numbers.{noRefusal}
+use Rattle.kifsang.specs.ColumnCalls.{columnCallExit}
 use Rattle.kifsang.proofs.column_calls.kifsang_read_column.Statement.{statement}
 use Rattle.kifsang.proofs.column_calls.kifsang_read_column.Tie as tie
 
-read-column-requires : tie.Need-read-column-requires
-read-column-requires c κs = search needs
-
 returns : tie.Need-returns
+unfolding columnCallExit
 returns c =
-    let at-call = c .before in
-    let a = at-call .before .before .args in
-    column-refused (a .text .now) (at-call .read-column .result) (a .number .now) (at-call .read-column .ensures) (c .if1 .taken)
+    let column = c .before .before .read-column .result in
+    let stored : toZ w64 (ofZ w64 (column .value)) ≡ column .value = search needs in
+    rw (← c .before .before .read-column .ensures, c .if1 .taken) (refl, stored)
 
 returns-2 : tie.Need-returns-2
-returns-2 c =
-    let at-call = c .before .before in
-    let a = at-call .before .before .args in
-    let column = at-call .read-column .result in
-    let stored : toZ w64 (ofZ w64 (column .value)) ≡ column .value = search needs in
-    let taken = column-taken (a .text .now) column (a .number .now) (at-call .read-column .ensures) (c .before .if1 .left) in
-    (taken .0, stored ∙ taken .1)
+unfolding columnCallExit
+returns-2 c = rw (← c .before .before .read-column .ensures, ne-eqb _ noRefusal (c .if1 .left)) (refl, refl)
 
 pub kifsang-read-column-spec : {M : Type 1} → statement M
-kifsang-read-column-spec = tie.close (tie.spec read-column-requires returns returns-2)
+kifsang-read-column-spec = tie.close (tie.spec (λ c κs. search needs) returns returns-2)

@@ -1,67 +1,73 @@
 -- `kifsang::group_calls::kifsang_row` meets its contract: the own checks, or the library's values as they are received.
-use mathlib.Core.Path.{_≡_, refl, sym, _∙_}
-use mathlib.Core.Bool.{true, false}
+use mathlib.Core.Path.{_≡_, sym, _∙_}
+use mathlib.Core.List.{List, [], _∷_}
+use Prim.Native.Nat.{ℕ}
+use native.Mathlib.Omega.{arith}
 use borrow.Author.Needs.{needs}
-use borrow.Author.Tests.{eq-eqb, ne-eqb, not-true, not-false}
-use Rattle.groups.specs.Group.{groupValuesAnswer}
+use lib.ListN.{length}
+use Rattle.algebra.proofs.Lists.{length-tabulate}
+use Rattle.refusals.specs.Numbers.{noRefusal}
+use Rattle.refusals.specs.Answers.{firstFault}
+use Rattle.refusals.proofs.Answers.{no-fault}
 use Rattle.rows.specs.Orders.{orderCount}
-use Rattle.kifsang.specs.Kinds.{isKind, kindWith}
+use Rattle.rows.proofs.Rows.{firstValues-whole}
+use Rattle.groups.specs.Group.{groupValues, groupValuesAnswer}
+use Rattle.groups.specs.declared.Kind.{Kind}
+use Rattle.kifsang.specs.Refusals.{unknownKind, wordCountCheck}
+use Rattle.kifsang.specs.Kinds.{kindWith, kindCheck}
 use Rattle.kifsang.specs.GroupCalls.{rowCallRefusal, rowCallExit}
+use Rattle.kifsang.proofs.Handed.{own-refused, count-passed}
 use Rattle.kifsang.proofs.group_calls.kifsang_row.Statement.{statement}
 use Rattle.kifsang.proofs.group_calls.kifsang_row.Tie as tie
 
-is-kind-requires : tie.Need-is-kind-requires
-is-kind-requires c κs = search needs
+groupValues-length : (kind : Kind) (system : ℕ) (lines : List ℕ) → length (groupValues kind system lines) ≡ orderCount
+unfolding groupValues
+groupValues-length kind system lines = length-tabulate orderCount _
 
--- what the test of the kind found
-unknown : (c : tie.Then1) → isKind (c .before .before .before .before .args .kind) ≡ false
-unknown c = sym (c .before .is-kind .ensures) ∙ not-true _ (c .if1 .taken)
-
-known : (c : tie.Else1) → isKind (c .before .before .before .before .args .kind) ≡ true
-known c = sym (c .before .is-kind .ensures) ∙ not-false _ (c .if1 .left)
+-- what the own checks answer
+own :
+    (c : tie.After-fault-or2) →
+    c .fault-or2 .result ≡
+    firstFault
+    (kindCheck (c .before .before .before .before .before .args .kind)
+    ∷ wordCountCheck orderCount (c .before .before .before .before .before .args .values .now)
+    ∷ [])
+own c = rw (← c .before .before .is-kind .ensures, ← c .before .fault-or .ensures) (c .fault-or2 .ensures)
 
 returns : tie.Need-returns
 unfolding rowCallRefusal rowCallExit
-returns c = rw (unknown c) (refl, refl)
+returns c = own-refused _ _ _ _ _ (own (c .before)) (c .if1 .taken)
+
+hand-over-row-requires : tie.Need-hand-over-row-requires
+hand-over-row-requires c κs =
+    let at-own = c .before .before .before .before .before in
+    let a = at-own .before .before .before .before .before .before .args in
+    let passed = no-fault (kindCheck (a .kind) .0) unknownKind _ (omega arith) (sym (own (at-own .before)) ∙ at-own .if1 .left) in
+    count-passed orderCount noRefusal (a .values .now) (passed .1) .0
 
 returns-2 : tie.Need-returns-2
-unfolding rowCallRefusal rowCallExit
-returns-2 c = rw (known (c .before), ne-eqb _ orderCount (c .if2 .taken)) (refl, refl)
-
-kind-with-requires : tie.Need-kind-with-requires
-kind-with-requires c κs = search needs
-
-group-values-requires : tie.Need-group-values-requires
-group-values-requires c κs = search needs
-
-hand-over-values-requires : tie.Need-hand-over-values-requires
-hand-over-values-requires c κs = search needs
-
-same-length : tie.Need-same-length
-same-length c = search needs
-
-returns-3 : tie.Need-returns-3
 unfolding rowCallRefusal rowCallExit groupValuesAnswer
-returns-3 c =
+returns-2 c =
     let at-hand = c .before .before in
-    let at-call = at-hand .before .before in
+    let at-call = at-hand .before .before .before .before in
     let at-kind = at-call .before in
-    let at-length = at-kind .before in
-    let a = at-length .before .before .before .before .before .args in
+    let at-own = at-kind .before in
+    let a = at-own .before .before .before .before .before .before .args in
     let answered : at-call .group-values .result ≡ groupValuesAnswer (kindWith (a .kind)) (a .system) (a .lines .now) =
     rw (← at-kind .kind-with .ensures) (at-call .group-values .ensures) in
-    rw (known (at-length .before), eq-eqb _ orderCount (at-length .if2 .left))
-    (rw answered at (at-hand .hand-over-values .ensures))
+    let whole = firstValues-whole (groupValues (kindWith (a .kind)) (a .system) (a .lines .now)) (groupValues-length _ _ _) in
+    rw (sym (own (at-own .before)) ∙ at-own .if1 .left) (rw (answered, whole) at (at-hand .hand-over-row .ensures))
 
 pub kifsang-row-spec : {M : Type 1} → statement M
 kifsang-row-spec =
     tie.close
     (tie.spec
-    is-kind-requires
+    (λ c κs. search needs)
+    (λ c κs. search needs)
+    (λ c κs. search needs)
     returns
-    returns-2
-    kind-with-requires
-    group-values-requires
-    hand-over-values-requires
-    same-length
-    returns-3)
+    (λ c κs. search needs)
+    (λ c κs. search needs)
+    hand-over-row-requires
+    (λ c. search needs)
+    returns-2)

@@ -1,94 +1,86 @@
--- `kifsang::listing_call::kifsang_fill_listing` meets its contract: a wrong count of words in a row, or the library's listing as it is received.
-use mathlib.Core.Path.{refl}
+-- `kifsang::listing_call::kifsang_fill_listing` meets its contract: the own checks, or the library's listing as it is received.
+use mathlib.Core.Path.{_≡_, sym, _∙_}
+use mathlib.Core.List.{List, [], _∷_, _++_}
+use Prim.Native.Nat.{ℕ}
 use borrow.Author.Needs.{needs}
-use borrow.Author.Tests.{eq-eqb, ne-eqb}
+use lib.ListN.{length, drop}
+use Rattle.refusals.specs.Numbers.{noRefusal}
+use Rattle.refusals.specs.Answers.{firstFault}
 use Rattle.rows.specs.Orders.{orderCount}
+use Rattle.rows.proofs.Rows.{firstValues-whole}
+use Rattle.columns.specs.Listing.{listingText}
+use Rattle.columns.specs.Calls.{listingRefusal, listingExit}
+use Rattle.kifsang.specs.Refusals.{wordCountCheck}
 use Rattle.kifsang.specs.ListingCall.{listingCallRefusal, listingCallExit, listingCallCountExit}
-use Rattle.kifsang.proofs.ListingReceived.{listing-received}
+use Rattle.kifsang.proofs.Handed.{own-refused, count-passed, received-eq, handed-answer}
 use Rattle.kifsang.proofs.listing_call.kifsang_fill_listing.Statement.{statement}
 use Rattle.kifsang.proofs.listing_call.kifsang_fill_listing.Tie as tie
 
+-- what the own checks answer
+own :
+    (c : tie.After-fault-or3) →
+    c .fault-or3 .result ≡
+    firstFault
+    (wordCountCheck orderCount (c .before .before .before .before .before .before .before .args .group .now)
+    ∷ wordCountCheck orderCount (c .before .before .before .before .before .before .before .args .subgroup .now)
+    ∷ wordCountCheck orderCount (c .before .before .before .before .before .before .before .args .smoothed .now)
+    ∷ [])
+own c = rw (← c .before .before .fault-or .ensures, ← c .before .fault-or2 .ensures) (c .fault-or3 .ensures)
+
 returns : tie.Need-returns
 unfolding listingCallRefusal listingCallExit listingCallCountExit
-returns c = rw (ne-eqb _ orderCount (c .if1 .taken)) (refl, (refl, refl))
+returns c =
+    let found = own (c .before) in
+    let left = own-refused _ _ _ _ _ found (c .if1 .taken) in
+    let count = own-refused _ _ _ _ _ found (c .if1 .taken) in
+    (left .0, (left .1, count .1))
 
 returns-2 : tie.Need-returns-2
-unfolding listingCallRefusal listingCallExit listingCallCountExit
+unfolding listingCallRefusal listingCallExit listingCallCountExit listingExit
 returns-2 c =
-    rw (eq-eqb _ orderCount (c .before .if1 .left), ne-eqb _ orderCount (c .if2 .taken)) (refl, (refl, refl))
-
-returns-3 : tie.Need-returns-3
-unfolding listingCallRefusal listingCallExit listingCallCountExit
-returns-3 c =
-    rw (
-      eq-eqb _ orderCount (c .before .before .if1 .left),
-      eq-eqb _ orderCount (c .before .if2 .left),
-      ne-eqb _ orderCount (c .if3 .taken),
-    )
-    (refl, (refl, refl))
-
-row-values-requires : tie.Need-row-values-requires
-row-values-requires c κs = search needs
-
-row-values-requires-2 : tie.Need-row-values-requires-2
-row-values-requires-2 c κs = search needs
-
-row-values-requires-3 : tie.Need-row-values-requires-3
-row-values-requires-3 c κs = search needs
-
-fill-listing-requires : tie.Need-fill-listing-requires
-fill-listing-requires c κs = search needs
-
-hand-over-requires : tie.Need-hand-over-requires
-hand-over-requires c κs = search needs
-
-same-length : tie.Need-same-length
-same-length c = search needs
-
-returns-4 : tie.Need-returns-4
-returns-4 c =
     let at-fill = c .before .before .before .before in
     let at-smoothed = at-fill .before .before .before .before .before in
     let at-subgroup = at-smoothed .before in
     let at-group = at-subgroup .before in
-    let whole-smoothed = at-group .before in
-    let whole-subgroup = whole-smoothed .before in
-    let whole-group = whole-subgroup .before in
-    let a = whole-group .before .before .before .before .before .args in
-    let answered =
-    rw (at-group .row-values .ensures, at-subgroup .row-values2 .ensures, at-smoothed .row-values3 .ensures)
-    at (at-fill .fill-listing .ensures .0) in
-    let wrote =
-    rw (at-group .row-values .ensures, at-subgroup .row-values2 .ensures, at-smoothed .row-values3 .ensures)
-    at (at-fill .fill-listing .ensures .1) in
-    listing-received
-    (a .group .now)
-    (a .subgroup .now)
-    (a .smoothed .now)
-    (a .buffer .now)
-    (whole-group .if1 .left)
-    (whole-subgroup .if2 .left)
-    (whole-smoothed .if3 .left)
-    (a .written .now)
-    _
-    _
-    _
-    (at-fill .fill-listing .result)
-    answered
-    wrote
-    (c .hand-over .ensures)
+    let at-own = at-group .before in
+    let a = at-own .before .before .before .before .before .before .before .before .args in
+    let group = a .group .now in
+    let subgroup = a .subgroup .now in
+    let smoothed = a .smoothed .now in
+    let buffer = a .buffer .now in
+    let text = listingText group subgroup smoothed in
+    let passed = sym (own (at-own .before)) ∙ at-own .if1 .left in
+    let whole-group = count-passed orderCount _ group passed in
+    let whole-subgroup = count-passed orderCount _ subgroup (whole-group .1) in
+    let whole-smoothed = count-passed orderCount noRefusal smoothed (whole-subgroup .1) in
+    let filled =
+    rw (
+      at-group .first-values .ensures ∙ firstValues-whole group (whole-group .0),
+      at-subgroup .first-values2 .ensures ∙ firstValues-whole subgroup (whole-subgroup .0),
+      at-smoothed .first-values3 .ensures ∙ firstValues-whole smoothed (whole-smoothed .0),
+    )
+    at (at-fill .fill-listing .ensures) in
+    let handed = handed-answer (listingRefusal buffer) (length text) (a .written .now) _ _ _ (filled .0) (c .hand-over .ensures) in
+    rw passed (
+      handed .0,
+      (
+        filled .1 ∙ sym (received-eq (λ (x : List ℕ). x) (listingRefusal buffer) (text ++ drop (length text) buffer) buffer buffer),
+        handed .1,
+      ),
+    )
 
 pub kifsang-fill-listing-spec : {M : Type 1} → statement M
 kifsang-fill-listing-spec =
     tie.close
     (tie.spec
+    (λ c κs. search needs)
+    (λ c κs. search needs)
+    (λ c κs. search needs)
     returns
-    returns-2
-    returns-3
-    row-values-requires
-    row-values-requires-2
-    row-values-requires-3
-    fill-listing-requires
-    hand-over-requires
-    same-length
-    returns-4)
+    (λ c κs. search needs)
+    (λ c κs. search needs)
+    (λ c κs. search needs)
+    (λ c κs. search needs)
+    (λ c κs. search needs)
+    (λ c. search needs)
+    returns-2)

@@ -1,0 +1,3 @@
+-- The laws of parts and of a record's words.
+pub mod Parts
+pub mod Words

@@ -1,0 +1,106 @@
+-- A record and its words determine each other, and the record that is read of some words is the one that they hold, or neither is sound.
+use mathlib.Core.Path.{_≡_, refl, sym, ap, _∙_}
+use mathlib.Core.Bool.{Bool, true, false, true≢false}
+use mathlib.Core.List.{List, [], _∷_, _++_, append-assoc, append-nil}
+use Prim.Native.Nat.{ℕ, min, _+_, _<_, _≤_}
+use native.Mathlib.Nat.{le-of-eq, min-eq-left}
+use native.Mathlib.Omega.{arith}
+use lib.ListN.{length, getD}
+use lib.Seq.{take-all}
+use borrow.Author.Tests.{eq-eqb}
+use Rattle.algebra.specs.Lists.{tabulate}
+use Rattle.algebra.proofs.Lists.{getD-tabulate}
+use Rattle.rows.specs.Orders.{orderCount}
+use Rattle.rows.specs.Rows.{largestValue}
+use Rattle.rows.proofs.Systems.{system-bounds}
+use Rattle.observation.specs.declared.Observation.{Observation}
+use Rattle.observation.specs.Soundness.{isSound, mostWindows}
+use Rattle.observation.proofs.SoundRecord.{sound-parts}
+use Rattle.record_words.specs.Parts.{wordsFrom, partsFrom, joined, total}
+use Rattle.record_words.specs.Words.{recordParts, recordWords, smoothedPlace, partsOf, recordWith, wordsOf, recordOf, recordRead, Whole, wordsWith}
+use Rattle.record_words.proofs.Parts.{joined-length, partsFrom-joined, joined-partsFrom}
+
+-- 122 words are those of the record that they hold
+pub words-of-record : (words : List ℕ) → length words ≡ recordWords → wordsOf (recordOf words) ≡ words
+unfolding wordsOf recordOf recordWith partsOf partsFrom wordsFrom tabulate
+words-of-record words whole =
+    joined-partsFrom 0 recordParts words (omega arith) ∙ take-all recordWords words (le-of-eq whole)
+
+-- a record is the one that its words hold
+pub record-of-words : (o : Observation) → Whole o → recordOf (wordsOf o) ≡ o
+unfolding wordsOf recordOf Whole recordWith partsOf
+record-of-words o whole = rw (← whole, partsFrom-joined [] (partsOf o))
+
+-- its words are its parts, each put after those before it
+pub wordsOf-parts : (o : Observation) → (o .system ∷ o .windows ∷ []) ++ o .smoothed ++ o .sum ++ o .peak ≡ wordsOf o
+unfolding wordsOf partsOf joined
+wordsOf-parts o = simp (append-assoc, append-nil)
+
+pub wordsOf-length : (o : Observation) → Whole o → length (wordsOf o) ≡ recordWords
+unfolding wordsOf Whole
+wordsOf-length o whole = joined-length (partsOf o) ∙ ap total whole
+
+-- the word of a smoothed value
+pub smoothed-word :
+    (o : Observation) (i : ℕ) →
+    Whole o →
+    i < orderCount →
+    getD (wordsOf o) (smoothedPlace + i) 0 ≡ getD (o .smoothed) i 0
+unfolding recordOf recordWith partsFrom wordsFrom
+smoothed-word o i whole inside =
+    sym (getD-tabulate orderCount (λ k. getD (wordsOf o) (smoothedPlace + k) 0) i 0 inside) ∙
+    ap (λ (held : Observation). getD (held .smoothed) i 0) (record-of-words o whole)
+
+-- 122 words after a record is put into them
+pub wordsWith-whole : (o : Observation) (words : List ℕ) → length words ≡ recordWords → wordsWith o words ≡ wordsOf o
+unfolding wordsWith
+wordsWith-whole o words whole = rw (eq-eqb (length words) recordWords whole)
+
+-- ---- the record that is read of some words
+
+-- the words of the system and of the count of windows
+abbrev systemWord : List ℕ → ℕ
+systemWord words = getD (wordsFrom 0 1 words) 0 0
+
+abbrev windowsWord : List ℕ → ℕ
+windowsWord words = getD (wordsFrom 1 1 words) 0 0
+
+-- it is the one that they hold, where both have 32 bits
+read-same :
+    (words : List ℕ) →
+    min (systemWord words) largestValue ≡ systemWord words →
+    min (windowsWord words) largestValue ≡ windowsWord words →
+    recordRead words ≡ recordOf words
+unfolding recordRead recordOf recordWith partsFrom
+read-same words system windows = rw (system, windows)
+
+-- so it is where one of the two is sound
+read-sound : (words : List ℕ) → isSound (recordRead words) ≡ true → recordRead words ≡ recordOf words
+unfolding recordRead recordWith partsFrom
+read-sound words sound =
+    let parts = sound-parts (recordRead words) sound in
+    let bounds = system-bounds _ (parts .system-known) in
+    read-same words (omega (arith, bounds .most)) (omega (arith, parts .windows-le))
+
+held-sound : (words : List ℕ) → isSound (recordOf words) ≡ true → recordRead words ≡ recordOf words
+unfolding recordOf recordWith partsFrom
+held-sound words sound =
+    let parts = sound-parts (recordOf words) sound in
+    let bounds = system-bounds _ (parts .system-known) in
+    read-same words (omega (arith, bounds .most)) (omega (arith, parts .windows-le))
+
+-- what depends on a record only where it is sound is the same of both
+pub recordRead-same :
+    {A : Type 0} (f : Observation → A) (unsound : A) →
+    ((o : Observation) → isSound o ≡ false → f o ≡ unsound) →
+    (words : List ℕ) →
+    f (recordRead words) ≡ f (recordOf words)
+recordRead-same f unsound else words = by-read (isSound (recordRead words)) refl
+  where
+    by-held : (sound : Bool) → isSound (recordOf words) ≡ sound → isSound (recordRead words) ≡ false → f (recordRead words) ≡ f (recordOf words)
+    by-held true e read = ap f (held-sound words e)
+    by-held false e read = else (recordRead words) read ∙ sym (else (recordOf words) e)
+
+    by-read : (sound : Bool) → isSound (recordRead words) ≡ sound → f (recordRead words) ≡ f (recordOf words)
+    by-read true e = ap f (read-sound words e)
+    by-read false e = by-held (isSound (recordOf words)) refl e

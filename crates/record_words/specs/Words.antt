@@ -1,0 +1,58 @@
+-- An observation record (document 01, "The observation record") as words that a caller keeps.
+use mathlib.Core.Bool.{cond}
+use mathlib.Core.Path.{_≡_}
+use mathlib.Core.List.{List, [], _∷_, map}
+use Prim.Native.Nat.{ℕ, min}
+use lib.Dec.{eqb}
+use lib.ListN.{length, getD, take}
+use Rattle.rows.specs.Orders.{orderCount}
+use Rattle.rows.specs.Rows.{largestValue}
+use Rattle.observation.specs.declared.Observation.{Observation}
+use Rattle.record_words.specs.Parts.{partsFrom, joined, total}
+
+-- the counts of words of a record's parts: its system, its count of windows, and the smoothed values, the sums and the peaks of the 40 orders
+abbrev pub recordParts : List ℕ
+recordParts = 1 ∷ 1 ∷ orderCount ∷ orderCount ∷ orderCount ∷ []
+
+-- the words of a record
+abbrev pub recordWords : ℕ
+recordWords = total recordParts
+
+-- the place of the first smoothed value
+abbrev pub smoothedPlace : ℕ
+smoothedPlace = total (take 2 recordParts)
+
+-- the parts of a record
+unfoldable pub partsOf : Observation → List (List ℕ)
+partsOf o = (o .system ∷ []) ∷ (o .windows ∷ []) ∷ o .smoothed ∷ o .sum ∷ o .peak ∷ []
+
+-- the record of some parts, its system and its count of windows as a number of words has them
+unfoldable pub recordWith : (ℕ → ℕ) → List (List ℕ) → Observation
+recordWith counted parts =
+    record {
+      system = counted (getD (getD parts 0 []) 0 0);
+      windows = counted (getD (getD parts 1 []) 0 0);
+      smoothed = getD parts 2 [];
+      sum = getD parts 3 [];
+      peak = getD parts 4 [];
+    }
+
+-- the words that hold a record
+unfoldable pub wordsOf : Observation → List ℕ
+wordsOf o = joined (partsOf o)
+
+-- the record that some words hold
+unfoldable pub recordOf : List ℕ → Observation
+recordOf words = recordWith (λ word. word) (partsFrom 0 recordParts words)
+
+-- the same in the library's numbers: its system and its count of windows have 32 bits, and a word that has more counts as the largest of them, which is neither a system nor a count of a sound record
+unfoldable pub recordRead : List ℕ → Observation
+recordRead words = recordWith (λ word. min word largestValue) (partsFrom 0 recordParts words)
+
+-- each part of a record has its count of words
+unfoldable pub Whole : Observation → Type 0
+Whole o = map length (partsOf o) ≡ recordParts
+
+-- some words after a record is put into them: its own where there are as many, and else what they were
+unfoldable pub wordsWith : Observation → List ℕ → List ℕ
+wordsWith o words = cond (eqb (length words) recordWords) (wordsOf o) words

@@ -1,0 +1,22 @@
+// An observation record as words that a caller keeps: the parts of the record one after the other,
+// in the order of include/kifsang.h. The places of the parts stand here once for the code, and in
+// specs/Words.antt once for the contracts.
+mod reading;
+mod writing;
+
+pub use reading::read_record;
+use rows::ORDER_COUNT;
+pub use writing::hand_over_record;
+
+// Each part begins where the part before it ends.
+const SYSTEM_PLACE: usize = 0;
+
+const WINDOWS_PLACE: usize = SYSTEM_PLACE + 1;
+
+const SMOOTHED_PLACE: usize = WINDOWS_PLACE + 1;
+
+const SUM_PLACE: usize = SMOOTHED_PLACE + ORDER_COUNT;
+
+const PEAK_PLACE: usize = SUM_PLACE + ORDER_COUNT;
+// The words of a record.
+pub const RECORD_WORDS: usize = PEAK_PLACE + ORDER_COUNT;
