@@ -8,8 +8,8 @@ use Rattle.observation.specs.Calls.{emptyRecord, freshRefusal, withRow, addRowR
 use Rattle.verdict.specs.declared.Question.{Question}
 use Rattle.verdict.specs.declared.Verdict.{Verdict}
 use Rattle.verdict.specs.declared.Verdict.the-variants.{Within, Close, Over}
-use Rattle.verdict.specs.declared.Answered.{Answered}
-use Rattle.verdict.specs.declared.Answered.the-variants.{Given, Refused}
+use Rattle.verdict.specs.declared.VerdictAnswer.{VerdictAnswer}
+use Rattle.verdict.specs.declared.VerdictAnswer.the-variants.{Given, Refused}
 use Rattle.verdict.specs.Call.{verdictOf, verdictRefusal}
 use Rattle.kifsang.specs.Refusals.{ownFirst, wordCountCheck}
 use Rattle.record_words.specs.Words.{recordWords, recordOf, wordsOf}
@@ -48,7 +48,7 @@ verdictNumber (Close order) = 2
 verdictNumber (Over order) = 3
 
 -- the number that an answer leaves in place of another
-unfoldable pub numberLeft : Answered → ℕ → ℕ
+unfoldable pub numberLeft : VerdictAnswer → ℕ → ℕ
 numberLeft (Given verdict) before = verdictNumber verdict
 numberLeft (Refused refusal) before = before
 
