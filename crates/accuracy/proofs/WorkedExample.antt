@@ -1,6 +1,6 @@
 -- A worked list of calls, with a refused one between two accepted ones. It meets the hypotheses of demand 3 for every kind and any two windows in range.
 -- Of the pulse's harmonic groups, document 01's 8944, the third order is then judged over, close and within at K = 3883, 3884 .. 3893 and 3894.
-use mathlib.Core.Path.{_≡_, refl, sym, ap, subst, fun-ext, _∙_}
+use mathlib.Core.Path.{_≡_, refl, sym, ap, subst, _∙_}
 use mathlib.Core.List.{List, [], _∷_}
 use Prim.Native.Nat.{ℕ, _-_}
 use native.Mathlib.Omega.{arith}
@@ -13,7 +13,8 @@ use Rattle.algebra.specs.Rounding.{nearest}
 use Rattle.algebra.specs.Weighted.{sumOver}
 use Rattle.integers.specs.Root.{rootOf}
 use Rattle.spectrum.specs.Line.{lineCount, linesOf}
-use Rattle.spectrum.proofs.Pulse.{pulse, pulse-in-range, pulse-line}
+use Rattle.spectrum.proofs.Pulse as Pulse
+use Rattle.spectrum.proofs.Pulse.{pulse, pulse-in-range}
 use Rattle.groups.specs.declared.Kind.{Kind}
 use Rattle.groups.specs.declared.Kind.the-variants.{HarmonicGroup}
 use Rattle.groups.specs.Weights.{wholeLines, weightsOf, weightedSum}
@@ -78,7 +79,7 @@ pulse-window = record { whole-window = refl; samples = pulse-in-range }
 
 pulse-lines : linesOf pulse ≡ tabulate lineCount (λ k. 4000000)
 unfolding linesOf
-pulse-lines = ap (tabulate lineCount) (fun-ext pulse-line)
+pulse-lines = Pulse.pulse-lines 0 lineCount
 
 pulse-value : groupAnswer HarmonicGroup 10 3 (tabulate lineCount (λ k. 4000000)) .value ≡ 8944
 unfolding groupAnswer groupRefusal isSystem isOrder groupValue rootOf largest weightsOf wholeLines weightedSum sumOver tabulate anyOf

@@ -43,7 +43,11 @@ two-parts f d r e t =
     ring (f' ⊗ (d' ⊗ r' ⊖ two ⊗ e')) (d' ⊗ (f' ⊗ r' ⊖ two ⊗ t') ⊖ two ⊗ (f' ⊗ e' ⊖ d' ⊗ t')) tt
     (f ∷ d ∷ r ∷ e ∷ t ∷ [])
 
-three-quarters : (d : ℕ) (r e t : ℤ) → natAbs (pos fullScale *ℤ r -ℤ pos 2 *ℤ t) ≤ sumScale → 2 * natAbs (pos fullScale *ℤ e -ℤ pos d *ℤ t) ≤ windowLength * (largestSample * d) → 4 * natAbs (pos d *ℤ r -ℤ pos 2 *ℤ e) ≤ 3 * d
+three-quarters :
+    (d : ℕ) (r e t : ℤ) →
+    natAbs (pos fullScale *ℤ r -ℤ pos 2 *ℤ t) ≤ sumScale →
+    2 * natAbs (pos fullScale *ℤ e -ℤ pos d *ℤ t) ≤ windowLength * (largestSample * d) →
+    4 * natAbs (pos d *ℤ r -ℤ pos 2 *ℤ e) ≤ 3 * d
 three-quarters d r e t rounding table =
     let f = pos fullScale in
     let a = f *ℤ r -ℤ pos 2 *ℤ t in
@@ -62,7 +66,9 @@ three-quarters d r e t rounding table =
 module _ (window : List ℤ) (in-range : anyOf outOfRange window ≡ false) where
   module _ (exact table : ℕ → ℤ) (near : (i : ℕ) → WithinHalfUnit (exact i) (table i)) where
     -- the table's part of the distance, in one summand
-    summand-near : (k j : ℕ) → natAbs (pos fullScale *ℤ summand exact window k j -ℤ pos denominator *ℤ summand table window k j) ≤ largestSample * denominator / 2
+    summand-near :
+        (k j : ℕ) →
+        natAbs (pos fullScale *ℤ summand exact window k j -ℤ pos denominator *ℤ summand table window k j) ≤ largestSample * denominator / 2
     summand-near k j =
         let s = getD window j (pos 0) in
         let i = j * k in
@@ -70,7 +76,9 @@ module _ (window : List ℤ) (in-range : anyOf outOfRange window ≡ false) wher
         (omega (arith, mul-le-mul (sample-le window in-range j) (near i)))
 
     -- and in the whole sum
-    lineSum-near : (k : ℕ) → 2 * natAbs (pos fullScale *ℤ lineSum exact window k -ℤ pos denominator *ℤ lineSum table window k) ≤ windowLength * (largestSample * denominator)
+    lineSum-near :
+        (k : ℕ) →
+        2 * natAbs (pos fullScale *ℤ lineSum exact window k -ℤ pos denominator *ℤ lineSum table window k) ≤ windowLength * (largestSample * denominator)
     unfolding lineSum
     lineSum-near k =
         let e = summand exact window k in

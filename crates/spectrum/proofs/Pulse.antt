@@ -1,20 +1,20 @@
 -- The pulse of document 01, "Worked numbers": sample 0 is 1000, the rest 0, and every line is 4000000. Beside it two samples whose lines differ, so that a line's number is worked too.
 use mathlib.Core.Bool.{false}
 use mathlib.Core.List.{List, [], _∷_}
-use mathlib.Core.Path.{_≡_, refl}
+use mathlib.Core.Path.{_≡_, refl, ap, fun-ext}
 use Prim.Native.Nat.{ℕ, zero, suc, _+_, _*_, _<_}
 use native.Mathlib.Decide.{decLt}
 use native.Mathlib.Nat.{zero-mul}
 use native.Mathlib.Omega.{arith}
 use lib.IntN.{ℤ, pos, _+ℤ_, _*ℤ_, zero-*ℤ, +ℤ-idl, +ℤ-idr}
 use lib.ListN.{getD, replicate, length-replicate, getD-replicate, List·getD-eq-default}
-use Rattle.algebra.specs.Lists.{anyOf}
+use Rattle.algebra.specs.Lists.{tabulate, anyOf}
 use Rattle.algebra.specs.Rounding.{nearest, nearestℤ, floorOver}
 use Rattle.algebra.specs.Sums.{sumTo}
 use Rattle.sine.specs.ExactSine.{factorial, denominator, term, added, takenAway, quarterSine}
 use Rattle.sine.specs.Turn.{overHalf, overTurn}
 use Rattle.sine.specs.Wave.{tableEntry, tableSine, tableCosine}
-use Rattle.spectrum.specs.Line.{sumScale, lineSum, roundedSum, lineOf}
+use Rattle.spectrum.specs.Line.{sumScale, lineSum, roundedSum, lineOf, linesFrom}
 use Rattle.algebra.specs.Integers.{square}
 use Rattle.spectrum.specs.Spectrum.{outOfRange}
 use Rattle.spectrum.proofs.Bounds.{summand}
@@ -70,12 +70,21 @@ pulse-is = refl
 pub pulse-line : (k : ℕ) → lineOf pulse k ≡ 4000000
 pulse-line k = rw (pulse-is, twoSamples-line) (simp (zero-*ℤ, +ℤ-idr) pulse-squares)
 
+pub pulse-lines : (first count : ℕ) → linesFrom first count pulse ≡ tabulate count (λ i. 4000000)
+unfolding linesFrom
+pulse-lines first count = ap (tabulate count) (fun-ext (λ i. pulse-line (first + i)))
+
 -- 1000 at the samples 0 and 3, whose spectrum is not flat
 abbrev pair : List ℤ
 pair = twoSamples (pos 1000) (pos 1000)
 
 -- line k has the angle 3k
-pair-lines : lineOf pair 0 ∷ lineOf pair 1 ∷ lineOf pair 100 ∷ lineOf pair 256 ∷ lineOf pair 511 ∷ []
-    ≡ 16000000 ∷ 16000324 ∷ 12844985 ∷ 2342792 ∷ 7928324 ∷ []
+pair-lines : lineOf pair 0 ∷ lineOf pair 1 ∷ lineOf pair 100 ∷ lineOf pair 256 ∷ lineOf pair 511 ∷ lineOf pair 700 ∷ []
+    ≡ 16000000 ∷ 16000324 ∷ 12844985 ∷ 2342792 ∷ 7928324 ∷ 15901749 ∷ []
 unfolding square nearestℤ floorOver tableCosine tableSine overTurn overHalf tableEntry nearest quarterSine added takenAway term factorial denominator
 pair-lines = simp twoSamples-line
+
+-- the last two of the lines 0..1,023
+pair-last-lines : linesFrom 1022 2 pair ≡ 1369 ∷ 324 ∷ []
+unfolding linesFrom tabulate square nearestℤ floorOver tableCosine tableSine overTurn overHalf tableEntry nearest quarterSine added takenAway term factorial denominator
+pair-last-lines = simp twoSamples-line

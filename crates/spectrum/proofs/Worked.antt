@@ -1,4 +1,5 @@
--- The edges of the refusal table's row "spectrum" and of its order, worked on the definitions: the number, and what a refused call leaves in its buffer.
+-- The edges of the refusal table's row "spectrum" and of its order, worked on the definitions in figures: the number, and what a refused call leaves in its buffer.
+-- Beside them those of a call for a part of the lines.
 use mathlib.Core.List.{List, [], _∷_, map}
 use mathlib.Core.Path.{_≡_, refl}
 use Prim.Native.Nat.{ℕ, _-_, _^_}
@@ -6,7 +7,7 @@ use lib.IntN.{ℤ, pos, negsuc}
 use lib.ListN.{replicate}
 use Rattle.algebra.specs.Lists.{anyOf}
 use Rattle.spectrum.specs.Line.{windowAt}
-use Rattle.spectrum.specs.Spectrum.{outOfRange, spectrumRefusal, spectrumExit}
+use Rattle.spectrum.specs.Spectrum.{outOfRange, spectrumRefusal, spectrumExit, linesFromRefusal, linesFromExit}
 
 -- a recording, a start, the length of the buffer, and the refusal
 pub record Case : Type 0 where
@@ -67,3 +68,56 @@ expected c = (c .refusal, sevens c)
 refused-worked : map called refused ≡ map expected refused
 unfolding spectrumRefusal spectrumExit windowAt anyOf outOfRange
 refused-worked = refl
+
+-- ---- a part of the lines
+
+-- a recording from whose start the window begins, the first line, the length of the buffer, and the refusal
+pub record PartCase : Type 0 where
+  pub recording : List ℤ
+  pub first : ℕ
+  pub room : ℕ
+  pub refusal : ℕ
+
+abbrev partCase : List ℤ → ℕ → ℕ → ℕ → PartCase
+partCase recording first room refusal =
+    record { recording = recording; first = first; room = room; refusal = refusal }
+
+abbrev takenParts : List PartCase
+takenParts =
+    -- the last line, and no line after it
+    partCase (replicate 2048 (pos 0)) 1023 1 0 ∷
+    partCase (replicate 2048 (pos 0)) 1024 0 0 ∷
+    -- the upper half
+    partCase (replicate 2048 (pos 0)) 512 512 0 ∷
+    []
+
+abbrev refusedParts : List PartCase
+refusedParts =
+    -- a line past the last one, also where the first is so large that the sum would wrap
+    partCase (replicate 2048 (pos 0)) 1024 1 4 ∷
+    partCase (replicate 2048 (pos 0)) 0 1025 4 ∷
+    partCase (replicate 2048 (pos 0)) (2 ^ 64 - 1) 1 4 ∷
+    partCase (replicate 2048 (pos 0)) (2 ^ 64 - 1) 0 4 ∷
+    -- a short window, and a sample out of range
+    partCase (replicate 2047 (pos 0)) 0 1 2 ∷
+    partCase (replicate 2048 (pos 131072)) 1023 1 3 ∷
+    -- two faults: the earlier in the row decides
+    partCase (replicate 2047 (pos 0)) 1024 1 2 ∷
+    partCase (replicate 2048 (pos 131072)) 1024 1 4 ∷
+    partCase (replicate 2047 (pos 131072)) 0 1 2 ∷
+    []
+
+abbrev partSevens : PartCase → List ℕ
+partSevens c = replicate (c .room) 7
+
+abbrev partCalled : PartCase → ℕ × List ℕ
+partCalled c =
+    (linesFromRefusal (c .recording) 0 (c .first) (partSevens c), linesFromExit (c .recording) 0 (c .first) (partSevens c))
+
+takenParts-worked : map (λ c. partCalled c .0) takenParts ≡ map (λ c. c .refusal) takenParts
+unfolding linesFromRefusal windowAt anyOf outOfRange
+takenParts-worked = refl
+
+refusedParts-worked : map partCalled refusedParts ≡ map (λ c. (c .refusal, partSevens c)) refusedParts
+unfolding linesFromRefusal linesFromExit windowAt anyOf outOfRange
+refusedParts-worked = refl

@@ -20,7 +20,9 @@ use Rattle.spectrum.proofs.answer_lines.Statement.{statement}
 use Rattle.spectrum.proofs.answer_lines.Tie as tie
 
 -- the window is short just where fewer samples than a window has stand from the start on
-short-test : (recording : List ℤ) (start : ℕ) → ltb (length (windowAt recording start)) windowLength ≡ ltb (length recording - start) windowLength
+short-test :
+    (recording : List ℤ) (start : ℕ) →
+    ltb (length (windowAt recording start)) windowLength ≡ ltb (length recording - start) windowLength
 unfolding windowAt
 short-test recording start =
     simp (length-take, length-drop)

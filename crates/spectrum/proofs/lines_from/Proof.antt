@@ -4,7 +4,7 @@ use borrow.Author.Tests.{ltb-false}
 use mathlib.Core.Bool.{Bool}
 use mathlib.Core.List.{List}
 use mathlib.Core.Path.{_≡_, sym, _∙_}
-use Prim.Native.Nat.{ℕ, _+_, min}
+use Prim.Native.Nat.{ℕ, _+_, _≤_, min}
 use native.Mathlib.Omega.{arith}
 use lib.Dec.{ltb}
 use lib.IntN.{ℤ}
@@ -22,8 +22,12 @@ cut-first first cut count e =
 
 answer-lines-requires : tie.Need-answer-lines-requires
 answer-lines-requires c κs within =
-    let e = c .before .before in
-    ltb-false lineLimit _ (sym (cut-first (e .before .args .first) (c .before .lesser .result) _ (c .before .lesser .ensures)) ∙ within)
+    let a = c .before .before .before .args in
+    let cut = c .before .lesser in
+    let count = length (a .lines .now) in
+    let room : a .first + count ≤ lineLimit =
+    ltb-false lineLimit (a .first + count) (sym (cut-first (a .first) (cut .result) count (cut .ensures)) ∙ within) in
+    omega arith
 
 -- what the shared function answers and leaves is what the definitions say
 handed-on :

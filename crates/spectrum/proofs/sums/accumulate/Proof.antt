@@ -35,7 +35,12 @@ mul-result c =
     (product-fits (c .args .sample) (c .args .wave) (c .fits .sample) (c .fits .wave))
 
 -- the summands that the machine reads back from their bits
-read-back : (s a b : ℤ) → SFits w64 s → SFits w32 a → SFits w32 b → toZ w64 (ofZ w64 s) +ℤ toZ w64 (ofZ w64 (toZ w64 (ofZ w64 (toZ w32 (ofZ w32 a))) *ℤ toZ w64 (ofZ w64 (toZ w32 (ofZ w32 b))))) ≡ s +ℤ a *ℤ b
+read-back :
+    (s a b : ℤ) →
+    SFits w64 s →
+    SFits w32 a →
+    SFits w32 b →
+    toZ w64 (ofZ w64 s) +ℤ toZ w64 (ofZ w64 (toZ w64 (ofZ w64 (toZ w32 (ofZ w32 a))) *ℤ toZ w64 (ofZ w64 (toZ w32 (ofZ w32 b))))) ≡ s +ℤ a *ℤ b
 read-back s a b e f g =
     simp (widened a f, widened b g, toZ-ofZ w64 s e, toZ-ofZ w64 (a *ℤ b) (product-fits a b f g))
 

@@ -30,7 +30,10 @@ module _ (window : List ℤ) (k phase : ℕ) (sum : ℤ) (fits : SFits w64 sum) 
   small : anyOf outOfRange window ≡ false → natAbs (toZ w64 (ofZ w64 sum)) < 2 ^ 58
   small in-range = rw the-sum (lineSum-le window in-range (shiftedSine phase) (shiftedSine-le phase) k)
 
-  the-square : (result : ℕ) → result ≡ square (nearestℤ (toZ w64 (ofZ w64 sum)) sumScale) → result ≡ square (roundedSum (shiftedSine phase) window k)
+  the-square :
+      (result : ℕ) →
+      result ≡ square (nearestℤ (toZ w64 (ofZ w64 sum)) sumScale) →
+      result ≡ square (roundedSum (shiftedSine phase) window k)
   unfolding roundedSum
   the-square result r = r ∙ ap (λ z. square (nearestℤ z sumScale)) the-sum
 

@@ -6,6 +6,7 @@ use Prim.Native.Nat.{ℕ, _+_, _*_, _-_, _%_, _<_, _≤_}
 use native.Mathlib.Nat.{mul-le-mul, le-of-lt, lt-of-lt-of-le}
 use native.Mathlib.Numerals.{add-one}
 use native.Mathlib.Omega.{arith}
+use borrow.Author.Needs.{needs}
 use lib.IntN.{ℤ, pos, _+ℤ_, _*ℤ_}
 use lib.ListN.{getD}
 use mir.Syntax.{w32, w64}
@@ -21,13 +22,23 @@ use Rattle.spectrum.proofs.sums.line_sum.Statement.{statement}
 use Rattle.spectrum.proofs.sums.line_sum.Tie as tie
 
 -- one more summand, of the sample and the wave that are read back from their bits
-sum-step : (window wave : List ℤ) (k phase j at : ℕ) (sum : ℤ) → wave ≡ waveList → at ≡ (j * k + phase) % turn → sum ≡ sumTo j (summand (shiftedSine phase) window k) → SFits w32 (getD window j (pos 0)) → SFits w32 (getD wave at (pos 0)) → sum +ℤ toZ w32 (ofZ w32 (getD window j (pos 0))) *ℤ toZ w32 (ofZ w32 (getD wave at (pos 0))) ≡ sumTo (j + 1) (summand (shiftedSine phase) window k)
+sum-step :
+    (window wave : List ℤ) (k phase j at : ℕ) (sum : ℤ) →
+    wave ≡ waveList →
+    at ≡ (j * k + phase) % turn →
+    sum ≡ sumTo j (summand (shiftedSine phase) window k) →
+    SFits w32 (getD window j (pos 0)) →
+    SFits w32 (getD wave at (pos 0)) →
+    sum +ℤ toZ w32 (ofZ w32 (getD window j (pos 0))) *ℤ toZ w32 (ofZ w32 (getD wave at (pos 0))) ≡ sumTo (j + 1) (summand (shiftedSine phase) window k)
 unfolding sumTo
 sum-step window wave k phase j at sum e i s f g =
     rw (toZ-ofZ w32 _ f, toZ-ofZ w32 _ g, e, i, s, waveList-at-mod, add-one)
 
 -- all of them
-sum-whole : (window : List ℤ) (k phase j : ℕ) → j ≡ windowLength → sumTo j (summand (shiftedSine phase) window k) ≡ lineSum (shiftedSine phase) window k
+sum-whole :
+    (window : List ℤ) (k phase j : ℕ) →
+    j ≡ windowLength →
+    sumTo j (summand (shiftedSine phase) window k) ≡ lineSum (shiftedSine phase) window k
 unfolding lineSum
 sum-whole window k phase j e = rw e
 
@@ -45,12 +56,6 @@ loop-holds : tie.Need-loop-holds Inv-loop μ-loop
 unfolding sumTo
 loop-holds c = (omega arith, refl)
 
-mul-accumulate : tie.Need-mul-accumulate Inv-loop μ-loop
-mul-accumulate c = omega arith
-
-shared-slice-copy-out-accumulate : tie.Need-shared-slice-copy-out-accumulate Inv-loop μ-loop
-shared-slice-copy-out-accumulate c = omega arith
-
 mul-turn-index : tie.Need-mul-turn-index Inv-loop μ-loop
 mul-turn-index c =
     omega (
@@ -65,15 +70,6 @@ add-turn-index c =
       index-le (c .before .before .loop .j) (c .before .before .before .args .k) (omega arith) (omega arith),
     )
 
-turn-index-requires : tie.Need-turn-index-requires Inv-loop μ-loop
-turn-index-requires c κs = tt
-
-mul-accumulate-2 : tie.Need-mul-accumulate-2 Inv-loop μ-loop
-mul-accumulate-2 c = omega arith
-
-element-copy-out-accumulate : tie.Need-element-copy-out-accumulate Inv-loop μ-loop
-element-copy-out-accumulate c = omega arith
-
 accumulate-requires : tie.Need-accumulate-requires Inv-loop μ-loop
 accumulate-requires c κs =
     let at = c .before .before .before .before in
@@ -82,12 +78,6 @@ accumulate-requires c κs =
     (lt-of-lt-of-le
     (partialSum-le (a .window .now) (at .before .pre .0 .in-range) (shiftedSine (a .phase)) (shiftedSine-le (a .phase)) (a .k) (at .loop .j) (at .loop .inv .0))
     (omega arith))
-
-add-j : tie.Need-add-j Inv-loop μ-loop
-add-j c = omega arith
-
-loop-less : tie.Need-loop-less Inv-loop μ-loop
-loop-less c = omega arith
 
 loop-again : tie.Need-loop-again Inv-loop μ-loop
 loop-again c =
@@ -117,15 +107,15 @@ line-sum-spec =
     Inv-loop
     μ-loop
     loop-holds
-    mul-accumulate
-    shared-slice-copy-out-accumulate
+    (λ c. search needs)
+    (λ c. search needs)
     mul-turn-index
     add-turn-index
-    turn-index-requires
-    mul-accumulate-2
-    element-copy-out-accumulate
+    (λ c κs. tt)
+    (λ c. search needs)
+    (λ c. search needs)
     accumulate-requires
-    add-j
-    loop-less
+    (λ c. search needs)
+    (λ c. search needs)
     loop-again
     returns)

@@ -3,6 +3,7 @@
 use mathlib.Core.Path.{_≡_, refl, sym, ap, _∙_}
 use Prim.Native.Nat.{_-_, _≤_}
 use native.Mathlib.Omega.{arith}
+use borrow.Author.Needs.{needs}
 use lib.IntN.{pos}
 use lib.ListN.{length, getD, drop}
 use mir.Syntax.{w32}
@@ -26,23 +27,16 @@ abbrev μ-loop : tie.MeasureT-loop
 loop-holds : tie.Need-loop-holds Inv-loop μ-loop
 loop-holds c = (omega arith, refl)
 
-mul-out-of-range : tie.Need-mul-out-of-range Inv-loop μ-loop
-mul-out-of-range c = omega arith
-
-shared-slice-copy-out-out-of-range : tie.Need-shared-slice-copy-out-out-of-range Inv-loop μ-loop
-shared-slice-copy-out-out-of-range c = omega arith
-
 cast-out-of-range : tie.Need-cast-out-of-range Inv-loop μ-loop
 cast-out-of-range c =
     let sample = getD (c .before .before .before .args .window .now) (c .before .before .loop .j) (pos 0) in
     let fits : SFits w32 sample = record { sfits = c .out-of-range-arg .given } in
     rw (toZ-ofZ w32 sample fits) (sfits-widen tt fits)
 
-out-of-range-requires : tie.Need-out-of-range-requires Inv-loop μ-loop
-out-of-range-requires c κs = tt
-
 -- what the call answers, of the sample that it was handed as bits
-tested : (c : tie.After-out-of-range Inv-loop μ-loop) → outOfRange (getD (c .before .before .before .before .args .window .now) (c .before .before .before .loop .j) (pos 0)) ≡ c .out-of-range .result
+tested :
+    (c : tie.After-out-of-range Inv-loop μ-loop) →
+    outOfRange (getD (c .before .before .before .before .args .window .now) (c .before .before .before .loop .j) (pos 0)) ≡ c .out-of-range .result
 tested c =
     sym (c .out-of-range .ensures ∙ ap outOfRange (widened _ (record { sfits = c .before .out-of-range-arg .given })))
 
@@ -53,12 +47,6 @@ returns c =
     (anyOf-here outOfRange (at .before .args .window .now) (at .loop .j) (pos 0) (omega arith)
     (tested (c .before) ∙ c .if1 .taken))
     ∙ at .loop .inv .1
-
-add-j : tie.Need-add-j Inv-loop μ-loop
-add-j c = omega arith
-
-loop-less : tie.Need-loop-less Inv-loop μ-loop
-loop-less c = omega arith
 
 loop-again : tie.Need-loop-again Inv-loop μ-loop
 loop-again c =
@@ -82,12 +70,12 @@ any-out-of-range-spec =
     Inv-loop
     μ-loop
     loop-holds
-    mul-out-of-range
-    shared-slice-copy-out-out-of-range
+    (λ c. search needs)
+    (λ c. search needs)
     cast-out-of-range
-    out-of-range-requires
+    (λ c κs. tt)
     returns
-    add-j
-    loop-less
+    (λ c. search needs)
+    (λ c. search needs)
     loop-again
     returns-2)
