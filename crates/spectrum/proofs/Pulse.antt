@@ -9,12 +9,13 @@ use native.Mathlib.Omega.{arith}
 use lib.IntN.{ℤ, pos, _+ℤ_, _*ℤ_, zero-*ℤ, +ℤ-idl, +ℤ-idr}
 use lib.ListN.{getD, replicate, length-replicate, getD-replicate, List·getD-eq-default}
 use Rattle.algebra.specs.Lists.{anyOf}
+use Rattle.algebra.proofs.Lists.{tabulate-same}
 use Rattle.algebra.specs.Rounding.{nearest, nearestℤ, floorOver}
 use Rattle.algebra.specs.Sums.{sumTo}
 use Rattle.sine.specs.ExactSine.{factorial, denominator, term, added, takenAway, quarterSine}
 use Rattle.sine.specs.Turn.{overHalf, overTurn}
 use Rattle.sine.specs.Wave.{tableEntry, tableSine, tableCosine}
-use Rattle.spectrum.specs.Line.{sumScale, lineSum, roundedSum, lineOf}
+use Rattle.spectrum.specs.Line.{lineCount, sumScale, lineSum, roundedSum, lineOf, linesFrom, linesOf}
 use Rattle.algebra.specs.Integers.{square}
 use Rattle.spectrum.specs.Spectrum.{outOfRange}
 use Rattle.spectrum.proofs.Bounds.{summand}
@@ -69,6 +70,26 @@ pulse-is = refl
 
 pub pulse-line : (k : ℕ) → lineOf pulse k ≡ 4000000
 pulse-line k = rw (pulse-is, twoSamples-line) (simp (zero-*ℤ, +ℤ-idr) pulse-squares)
+
+pub pulse-lines : linesOf pulse ≡ replicate lineCount 4000000
+unfolding linesOf linesFrom
+pulse-lines = tabulate-same lineCount _ 4000000 (λ i inside. pulse-line (0 + i))
+
+-- no signal
+unfoldable pub silence : List ℤ
+silence = replicate 2048 (pos 0)
+
+silence-is : silence ≡ twoSamples (pos 0) (pos 0)
+unfolding silence twoSamples
+silence-is = refl
+
+silence-line : (k : ℕ) → lineOf silence k ≡ 0
+unfolding square nearestℤ floorOver
+silence-line k = rw (silence-is, twoSamples-line) (simp zero-*ℤ)
+
+pub silence-lines : linesOf silence ≡ replicate lineCount 0
+unfolding linesOf linesFrom
+silence-lines = tabulate-same lineCount _ 0 (λ i inside. silence-line (0 + i))
 
 -- 1000 at the samples 0 and 3, whose spectrum is not flat
 abbrev pair : List ℤ
