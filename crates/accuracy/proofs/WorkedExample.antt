@@ -77,11 +77,11 @@ pulse-window : InRange pulse
 unfolding pulse
 pulse-window = record { whole-window = refl; samples = pulse-in-range }
 
-pulse-lines : linesOf pulse ≡ tabulate lineCount (λ k. 4000000)
+pulse-lines : linesOf pulse ≡ replicate lineCount 4000000
 unfolding linesOf
 pulse-lines = Pulse.pulse-lines 0 lineCount
 
-pulse-value : groupAnswer HarmonicGroup 10 3 (tabulate lineCount (λ k. 4000000)) .value ≡ 8944
+pulse-value : groupAnswer HarmonicGroup 10 3 (replicate lineCount 4000000) .value ≡ 8944
 unfolding groupAnswer groupRefusal isSystem isOrder groupValue rootOf largest weightsOf wholeLines weightedSum sumOver tabulate anyOf
 pulse-value = refl
 

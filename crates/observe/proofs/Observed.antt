@@ -1,7 +1,7 @@
 -- The calls made one after the other come to the definition: the same refusal, and where nothing is refused the same record.
 use mathlib.Core.Path.{_≡_, refl, sym, ap, _∙_}
-use mathlib.Core.Bool.{Bool, true, false}
-use mathlib.Core.List.{List, [], _∷_}
+use mathlib.Core.Bool.{true, false}
+use mathlib.Core.List.{List}
 use Prim.Native.Nat.{ℕ, zero, suc, _+_, _-_, _<_, _≤_}
 use native.Mathlib.Decide.{ℕ-discrete}
 use native.Mathlib.Nat.{zero-add, suc-add}
@@ -32,7 +32,7 @@ use Rattle.observation.proofs.RecordBooks.{answer-system}
 use Rattle.groups.specs.Group.{groupRowRefusal, windowRow}
 use Rattle.observe.specs.Observe.{windowStart, windowRows, addWindowChecks, observeChecks, observeRefusal, observeAnswer}
 use Rattle.observe.specs.Calls.{lentLines, windowCalls, callsAfter}
-use Rattle.observe.proofs.WindowCalls.{spectrumRefusal-lent, groupRowRefusal-window, windowRow-fits, windowRow-system, Answered, windowCalls-answered}
+use Rattle.observe.proofs.WindowCalls.{spectrumRefusal-lent, groupRowRefusal-window, windowRow-fits, windowRow-system, windowCalls-answered}
 
 module _ (system : ℕ) (recording : List ℤ) (start : ℕ) where
   observeChecks-numbered : (n : ℕ) → numbered (observeChecks system recording start n) ≡ true

@@ -1,19 +1,17 @@
 -- The calls for one window and a sound record: they are refused for what the definition says, and add the window's row where they are accepted.
-use mathlib.Core.Path.{_≡_, refl, ap, _∙_}
+use mathlib.Core.Path.{_≡_, refl, _∙_}
 use mathlib.Core.Bool.{Bool, true, false}
 use mathlib.Core.List.{List, [], _∷_}
 use Prim.Native.Nat.{ℕ}
 use native.Mathlib.Omega.{arith}
 use borrow.Author.Tests.{eq-eqb}
-use lib.Dec.{leb}
 use lib.IntN.{ℤ}
 use lib.ListN.{length}
-use Rattle.refusals.specs.Numbers.{noRefusal, shortWindow, sampleOutOfRange, recordFull}
+use Rattle.refusals.specs.Numbers.{noRefusal, shortWindow, sampleOutOfRange}
 use Rattle.refusals.specs.Answers.{firstFault}
 use Rattle.rows.specs.Systems.{isSystem}
 use Rattle.rows.specs.Rows.{refusedRow, ValuesFit}
 use Rattle.rows.specs.declared.Row.{Row}
-use Rattle.rows.specs.declared.RowAnswer.{RowAnswer}
 use Rattle.spectrum.specs.Line.{lineCount, windowAt, linesOf}
 use Rattle.spectrum.specs.Spectrum.{shortCheck, rangeCheck, spectrumRefusal, spectrumExit}
 use Rattle.spectrum.proofs.Lines.{length-linesOf, no-line-too-large}
@@ -21,7 +19,7 @@ use Rattle.groups.specs.declared.Kind.{Kind}
 use Rattle.groups.proofs.GroupSum.{groupValues-le}
 use Rattle.observation.specs.declared.Observation.{Observation}
 use Rattle.observation.specs.declared.RecordAnswer.{RecordAnswer}
-use Rattle.observation.specs.Soundness.{isSound, mostWindows}
+use Rattle.observation.specs.Soundness.{isSound}
 use Rattle.observation.specs.Calls.{addRowAnswer}
 use Rattle.observation.proofs.SoundRecord.{sound-parts, addRowRefusal-own}
 use Rattle.groups.specs.Group.{groupRowRefusal, groupRowAnswer, windowRow}

@@ -1,14 +1,15 @@
 -- The pulse of document 01, "Worked numbers": sample 0 is 1000, the rest 0, and every line is 4000000. Beside it two samples whose lines differ, so that a line's number is worked too.
 use mathlib.Core.Bool.{false}
 use mathlib.Core.List.{List, [], _∷_}
-use mathlib.Core.Path.{_≡_, refl, ap, fun-ext}
+use mathlib.Core.Path.{_≡_, refl, ap}
 use Prim.Native.Nat.{ℕ, zero, suc, _+_, _*_, _<_}
 use native.Mathlib.Decide.{decLt}
 use native.Mathlib.Nat.{zero-mul}
 use native.Mathlib.Omega.{arith}
 use lib.IntN.{ℤ, pos, _+ℤ_, _*ℤ_, zero-*ℤ, +ℤ-idl, +ℤ-idr}
 use lib.ListN.{getD, replicate, length-replicate, getD-replicate, List·getD-eq-default}
-use Rattle.algebra.specs.Lists.{tabulate, anyOf}
+use Rattle.algebra.specs.Lists.{anyOf}
+use Rattle.algebra.proofs.Lists.{tabulate-same}
 use Rattle.algebra.specs.Rounding.{nearest, nearestℤ, floorOver}
 use Rattle.algebra.specs.Sums.{sumTo}
 use Rattle.sine.specs.ExactSine.{factorial, denominator, term, added, takenAway, quarterSine}
@@ -70,9 +71,25 @@ pulse-is = refl
 pub pulse-line : (k : ℕ) → lineOf pulse k ≡ 4000000
 pulse-line k = rw (pulse-is, twoSamples-line) (simp (zero-*ℤ, +ℤ-idr) pulse-squares)
 
-pub pulse-lines : (first count : ℕ) → linesFrom first count pulse ≡ tabulate count (λ i. 4000000)
+pub pulse-lines : (first count : ℕ) → linesFrom first count pulse ≡ replicate count 4000000
 unfolding linesFrom
-pulse-lines first count = ap (tabulate count) (fun-ext (λ i. pulse-line (first + i)))
+pulse-lines first count = tabulate-same count _ 4000000 (λ i inside. pulse-line (first + i))
+
+-- no signal
+unfoldable pub silence : List ℤ
+silence = replicate 2048 (pos 0)
+
+silence-is : silence ≡ twoSamples (pos 0) (pos 0)
+unfolding silence twoSamples
+silence-is = refl
+
+silence-line : (k : ℕ) → lineOf silence k ≡ 0
+unfolding square nearestℤ floorOver
+silence-line k = rw (silence-is, twoSamples-line) (simp zero-*ℤ)
+
+pub silence-lines : (first count : ℕ) → linesFrom first count silence ≡ replicate count 0
+unfolding linesFrom
+silence-lines first count = tabulate-same count _ 0 (λ i inside. silence-line (first + i))
 
 -- 1000 at the samples 0 and 3, whose spectrum is not flat
 abbrev pair : List ℤ

@@ -1,18 +1,15 @@
 -- `observe::observe` meets its contract. The loop's invariant: the calls for the first `i` windows leave the record, and the next window begins at `at`.
 -- The measure is the count of windows that are left.
 use mathlib.Core.Path.{_≡_, refl, sym, ap, _∙_}
-use Prim.Native.Nat.{ℕ, suc, _+_, _-_, _<_, _≤_}
+use Prim.Native.Nat.{ℕ, suc, _+_, _-_, _≤_}
 use native.Mathlib.Nat.{add-zero}
 use native.Mathlib.Numerals.{add-one}
 use native.Mathlib.Omega.{arith}
 use borrow.Author.Needs.{needs}
 use borrow.Author.Tests.{ne-eqb}
-use lib.ListN.{length}
 use Rattle.refusals.specs.Numbers.{noRefusal}
-use Rattle.spectrum.specs.Line.{windowLength}
-use Rattle.observation.specs.declared.RecordAnswer.{RecordAnswer}
-use Rattle.observation.specs.Calls.{refusedRecord, freshAnswer}
-use Rattle.observe.specs.Observe.{windowStart, observeAnswer}
+use Rattle.observation.specs.Calls.{freshAnswer}
+use Rattle.observe.specs.Observe.{windowStart}
 use Rattle.observe.specs.Calls.{callsAfter}
 use Rattle.observe.proofs.Observed.{calls-follow, observeAnswer-accepted, observeAnswer-refused, window-inside}
 use Rattle.observe.proofs.observe.Statement.{statement}
