@@ -6,9 +6,8 @@ use lib.ListN.{length, drop}
 use borrow.Author.Tests.{eq-eqb}
 use Rattle.refusals.specs.Answers.{unlessRefused, answer}
 use Rattle.refusals.specs.declared.Answer.{Answer}
+use Rattle.listing.specs.Listing.{listingText, listingRefusal, listingExit}
 use Rattle.rows.specs.Orders.{orderCount}
-use Rattle.columns.specs.Listing.{listingText}
-use Rattle.columns.specs.Calls.{listingRefusal, listingExit}
 use Rattle.kifsang.specs.ListingCall.{listingCallRefusal, listingCallExit, listingCallCountExit}
 use Rattle.kifsang.proofs.Handed.{received-eq, handed-answer}
 
