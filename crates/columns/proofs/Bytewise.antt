@@ -1,6 +1,7 @@
 -- What the definitions of a column say of a text from its byte `at` on, by that byte and the text after it: what a loop over the bytes learns in a turn.
-use mathlib.Core.Bool.{Bool, true, false, not, _&&_}
+use mathlib.Core.Bool.{Bool, true, false, cond, not, _&&_}
 use mathlib.Core.List.{List, [], _∷_}
+use mathlib.Core.Option.{none}
 use mathlib.Core.Path.{_≡_, refl, sym, _∙_}
 use Prim.Native.Nat.{ℕ, suc, _+_, _-_, _*_, _^_, _≤_, _<_}
 use native.Mathlib.Nat.{mul-le-mul-left, mul-le-mul-right, pow-suc, one-le-pow, pow-le-pow-right}
@@ -8,12 +9,16 @@ use native.Mathlib.Numerals.{add-one}
 use native.Mathlib.Omega.{arith}
 use borrow.Author.Tests.{eq-eqb, ne-eqb}
 use lib.Dec.{eqb}
-use lib.ListN.{length, getD, drop, length-drop, drop-of-length-le}
-use lib.Seq.{drop-cons}
-use Rattle.columns.specs.Text.{blank, digitZero}
-use Rattle.columns.specs.Column.{isDigit, areDigits, isWhole, placeValue, afterBlanks}
+use lib.ListN.{length, getD, take, drop, length-drop, drop-of-length-le}
+use lib.Seq.{drop-cons, take-all}
+use Rattle.columns.specs.Text.{blank, minus, digitZero}
+use Rattle.columns.specs.Column.{isDigit, areDigits, isWhole, placeValue, wholeNumber, negativeNumber, signedNumber, afterBlanks}
 use Rattle.columns.specs.Calls.{widestRead}
 use Rattle.columns.proofs.Decimal.{both-true, digit-bounds}
+
+-- the part from there to the end
+pub part-to-end : (text : List ℕ) (at : ℕ) → take (length text - at) (drop at text) ≡ drop at text
+part-to-end text at = take-all (length text - at) (drop at text) (simp length-drop (omega arith))
 
 module _ (text : List ℕ) (at : ℕ) (inside : at < length text) where
   drop-next : drop at text ≡ getD text at 0 ∷ drop (at + 1) text
@@ -31,6 +36,11 @@ module _ (text : List ℕ) (at : ℕ) (inside : at < length text) where
   unfolding areDigits
   digits-from = rw drop-next
 
+  pub signed-from : signedNumber (drop at text)
+      ≡ cond (eqb (getD text at 0) minus) (negativeNumber (drop (at + 1) text)) (wholeNumber (drop at text))
+  unfolding signedNumber
+  signed-from = rw drop-next
+
   pub value-from : placeValue (drop at text)
       ≡ (getD text at 0 - digitZero) * 10 ^ (length text - (at + 1)) + placeValue (drop (at + 1) text)
   unfolding placeValue
@@ -47,6 +57,10 @@ module _ (text : List ℕ) (at : ℕ) (ended : length text ≤ at) where
   pub digits-end : areDigits (drop at text) ≡ true
   unfolding areDigits
   digits-end = rw drop-end
+
+  pub signed-end : signedNumber (drop at text) ≡ none
+  unfolding signedNumber
+  signed-end = rw drop-end
 
   pub value-end : placeValue (drop at text) ≡ 0
   unfolding placeValue

@@ -45,6 +45,13 @@ length-below n h = rw (decimal-below n h)
 pub length-above : (n : ℕ) → 10 ≤ n → length (decimalText n) ≡ length (decimalText (n / 10)) + 1
 length-above n h = rw (decimal-above n h, length-append)
 
+pub length-positive : (n : ℕ) → 0 < length (decimalText n)
+length-positive n = by-test (decLt n 10)
+  where
+    by-test : Dec (n < 10) → 0 < length (decimalText n)
+    by-test (yes below) = omega (arith, length-below n below)
+    by-test (no above) = omega (arith, length-above n (omega arith))
+
 -- a number below 10^(w + 1) has at most w + 1 digits
 pub length-le : (w n : ℕ) → n < 10 ^ suc w → length (decimalText n) ≤ suc w
 length-le zero n h = omega (arith, length-below n h)

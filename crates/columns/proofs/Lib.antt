@@ -5,5 +5,4 @@ pub mod WorkedColumns
 pub mod Bytewise
 pub mod NumberText
 pub mod Readings
-pub mod Parts
 pub mod Writings

@@ -2,9 +2,12 @@
 use mathlib.Core.List.{_∷_}
 use mathlib.Core.Bool.{true, false, true≢false}
 use mathlib.Core.Path.{_≡_, refl}
+use Prim.Native.Nat.{_≤_}
 use native.Mathlib.Nat.{not-suc-le-zero}
+use native.Mathlib.Omega.{arith}
 use borrow.Author.Tests.{ltb-true}
 use lib.IntN.{ℤ, pos, negsuc, natAbs}
+use lib.ListN.{length}
 use lib.Signed.{ltZ}
 use Rattle.columns.specs.Text.{minus}
 use Rattle.columns.specs.Column.{decimalText, numberText}
@@ -18,3 +21,8 @@ pub numberText-positive : (z : ℤ) → ltZ z (pos 0) ≡ false → numberText z
 unfolding numberText
 numberText-positive (pos n) h = refl
 numberText-positive (negsuc n) h = absurd (true≢false h)
+
+pub numberText-digits-le : (z : ℤ) → length (decimalText (natAbs z)) ≤ length (numberText z)
+unfolding numberText
+numberText-digits-le (pos n) = omega arith
+numberText-digits-le (negsuc n) = omega arith

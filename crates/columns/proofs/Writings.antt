@@ -1,53 +1,69 @@
 -- What each step of the writer makes of a buffer, said of the definitions.
-use mathlib.Core.List.{List, _∷_, _++_}
-use mathlib.Core.Path.{_≡_, _∙_}
+use mathlib.Core.List.{List, [], _∷_, _++_, append-nil}
+use mathlib.Core.Path.{_≡_, sym, ap, _∙_}
 use Prim.Native.Nat.{ℕ, suc, _+_, _-_, _/_, _%_, _≤_, _<_}
-use native.Mathlib.Numerals.{add-one}
+use native.Mathlib.Nat.{add-zero}
 use native.Mathlib.Omega.{arith}
-use borrow.Rule.Slice.PartMut.{putMid}
-use lib.ListN.{length, set, take, drop, replicate, length-set, length-replicate}
-use lib.Seq.{drop-cons, getD-set-same, drop-set-lt, append-snoc, length-take-le, length-front, take-at}
-use Rattle.columns.specs.Text.{blank, rightJustified}
+use lib.ListN.{length, set, take, drop, replicate, length-append}
+use lib.Seq.{set-split, take-append-le, take-take, take-length, length-take-le, drop-at, append-snoc}
+use Rattle.columns.specs.Text.{rightJustified, blank, AtEnd}
 use Rattle.columns.specs.Column.{digitByte, decimalText}
-use Rattle.columns.proofs.Decimal.{decimal-below, decimal-above, length-above}
-use Rattle.columns.proofs.Parts.{length-part-to-end, put-to-end}
+use Rattle.columns.proofs.Decimal.{decimal-below, decimal-above, length-positive}
 
--- from the place of a store on, the list begins with what was stored
-drop-set : (t : List ℕ) (j v : ℕ) → j < length t → drop j (set t j v) ≡ v ∷ drop (j + 1) t
-drop-set t j v h =
-    let inside : j < length (set t j v) = simp length-set h in
-    let after : j < suc j = omega arith in
-    rw (add-one, drop-cons (set t j v) j 0 inside, getD-set-same t j v 0 h, drop-set-lt (suc j) t j v after)
+pub atEnd-none : (buffer : List ℕ) → AtEnd buffer [] (length buffer) buffer
+atEnd-none buffer = record { place = add-zero (length buffer); holds = sym (append-nil _ ∙ take-length buffer) }
 
--- the last digit of the rest, stored before those that are written
-pub digit-stored : (buffer : List ℕ) (rest at : ℕ) → 10 ≤ rest → at ≡ length (decimalText rest) → at ≤ length buffer
-    → decimalText (rest / 10) ++ drop (at - 1) (set buffer (at - 1) (digitByte (rest % 10))) ≡ decimalText rest ++ drop at buffer
-digit-stored buffer rest at several is room =
-    let shorter = length-above rest several in
-    let next : at - 1 + 1 ≡ at = omega arith in
-    rw (drop-set buffer (at - 1) (digitByte (rest % 10)) (omega arith), next, decimal-above rest several, append-snoc)
+module _ {buffer text after : List ℕ} {at : ℕ} (put : AtEnd buffer text at after) where
+  pub atEnd-length : length after ≡ length buffer
+  atEnd-length = rw (put .holds, length-append, length-take-le at buffer (omega (arith, put .place))) (put .place)
 
--- the first digit, stored last
-pub first-digit-stored : (buffer : List ℕ) (rest : ℕ) → rest < 10 → 0 < length buffer
-    → set buffer 0 (digitByte rest) ≡ decimalText rest ++ drop 1 buffer
-first-digit-stored buffer rest one room = rw (decimal-below rest one) (drop-set buffer 0 (digitByte rest) room)
+  -- one byte more before it
+  pub atEnd-more : (byte : ℕ) → 0 < at → AtEnd buffer (byte ∷ text) (at - 1) (set after (at - 1) byte)
+  atEnd-more byte some =
+      let front = length-take-le at buffer (omega (arith, put .place)) in
+      let next : suc (at - 1) ≡ at = omega arith in
+      let kept : take (at - 1) after ≡ take (at - 1) buffer =
+      rw (put .holds) (take-append-le (at - 1) (take at buffer) text (rw front (omega arith)) ∙ take-take (at - 1) at buffer (omega arith)) in
+      let rest : drop at after ≡ text = rw (put .holds) (drop-at (take at buffer) text at front) in
+      record {
+        place = omega (arith, put .place);
+        holds = set-split after (at - 1) byte (omega (arith, atEnd-length, put .place)) ∙ rw (next, kept, rest);
+      }
 
--- a buffer whose first k bytes, those that the text leaves, were made blanks: the text takes the rest of it, and then it is the column
-module _ (buffer blanks text : List ℕ) (k : ℕ) (room : length text ≤ length buffer) (is : k ≡ length buffer - length text) (filled : blanks ≡ replicate (length (take k buffer)) blank) where
-  length-first : length (take k buffer) ≡ k
-  length-first = length-take-le k buffer (omega arith)
-
-  length-blanks : length blanks ≡ length (take k buffer)
-  length-blanks = rw filled (length-replicate (length (take k buffer)) blank)
-
-  same-length : length (blanks ++ drop k buffer) ≡ length buffer
-  same-length = length-front buffer blanks k length-blanks
-
-  pub length-left : length (take (length (blanks ++ drop k buffer) - k) (drop k (blanks ++ drop k buffer))) ≡ length text
-  length-left = length-part-to-end (blanks ++ drop k buffer) k ∙ rw same-length (omega arith)
-
-  pub column-filled : putMid k (length (blanks ++ drop k buffer) - k) (blanks ++ drop k buffer) text ≡ rightJustified (length buffer) text
+  -- blanks before it make the column
+  pub atEnd-column : replicate at blank ++ drop at after ≡ rightJustified (length buffer) text
   unfolding rightJustified
-  column-filled =
-      put-to-end (blanks ++ drop k buffer) k text (rw same-length (omega arith))
-      ∙ rw (take-at blanks (drop k buffer) k (length-blanks ∙ length-first), filled, length-first, is)
+  atEnd-column =
+      let front = length-take-le at buffer (omega (arith, put .place)) in
+      let left : length buffer - length text ≡ at = omega (arith, put .place) in
+      rw (left, put .holds, drop-at (take at buffer) text at front)
+
+-- the digits that are written so far, after those of the rest
+pub record DigitsWritten (buffer : List ℕ) (number rest at : ℕ) (after : List ℕ) : Type 0 where
+  pub written : List ℕ
+  pub parts : decimalText rest ++ written ≡ decimalText number
+  pub put : AtEnd buffer written at after
+
+pub digits-none : (buffer : List ℕ) (number : ℕ) → DigitsWritten buffer number number (length buffer) buffer
+digits-none buffer number = record { written = []; parts = append-nil _; put = atEnd-none buffer }
+
+module _ {buffer after : List ℕ} {number rest at : ℕ} (d : DigitsWritten buffer number rest at after) where
+  -- there is room for the rest
+  pub digits-room : length (decimalText number) ≤ length buffer → 0 < at
+  digits-room room =
+      omega (arith, simp length-append at (ap length (d .parts)), d .put .place, length-positive rest)
+
+  -- the last digit of the rest
+  pub digits-more : 10 ≤ rest → 0 < at → DigitsWritten buffer number (rest / 10) (at - 1) (set after (at - 1) (digitByte (rest % 10)))
+  digits-more several some =
+      record {
+        written = digitByte (rest % 10) ∷ d .written;
+        parts = rw (decimal-above rest several, append-snoc) at (d .parts);
+        put = atEnd-more (d .put) (digitByte (rest % 10)) some;
+      }
+
+  -- the only digit of the rest
+  pub digits-last : rest < 10 → 0 < at → AtEnd buffer (decimalText number) (at - 1) (set after (at - 1) (digitByte rest))
+  digits-last one some =
+      let all : digitByte rest ∷ d .written ≡ decimalText number = rw (decimal-below rest one) at (d .parts) in
+      rw all at (atEnd-more (d .put) (digitByte rest) some)

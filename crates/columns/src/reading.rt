@@ -11,7 +11,7 @@ ghost use mathlib.Core.Option.{none, some};
 ghost use mathlib.Core.Path.{_≡_};
 ghost use Prim.Native.Nat.{_≤_};
 ghost use lib.ListN.{length, drop};
-ghost use Rattle.columns.specs.Column.{isDigit, areDigits, isWhole, placeValue, wholeNumber, negativeNumber, signedNumber, afterBlanks, columnNumber};
+ghost use Rattle.columns.specs.Column.{isDigit, areDigits, isWhole, placeValue, wholeNumber, negativeNumber, afterBlanks};
 ghost use Rattle.columns.specs.Calls.{widestRead, readingOf, columnReadAnswer};
 
 // The number of a column of 8 bytes.
@@ -21,30 +21,15 @@ pub fn read_column(text: &[u8]) -> NumberAnswer
     if text.len() != COLUMN_WIDTH {
         return refused();
     }
-    column_number(text)
-}
-
-// The number of a column as wide as the text.
-fn column_number(text: &[u8]) -> NumberAnswer
-    requires { ⌜ length (now text) ≤ widestRead ⌝ }
-    ensures { λ r. ⌜ r ≡ readingOf (columnNumber (now (text .entry))) ⌝ }
-{
     let start = first_not_blank(text);
-    signed_number(&text[start..])
-}
-
-// The number of a text with no blanks before it.
-fn signed_number(text: &[u8]) -> NumberAnswer
-    requires { ⌜ length (now text) ≤ widestRead ⌝ }
-    ensures { λ r. ⌜ r ≡ readingOf (signedNumber (now (text .entry))) ⌝ }
-{
-    if text.len() == 0 {
+    if start == COLUMN_WIDTH {
         return refused();
     }
-    if text[0] == MINUS {
-        return digits_number(&text[1..], true);
+    if text[start] == MINUS {
+        let digits = start + 1;
+        return digits_number(&text[digits..], true);
     }
-    digits_number(text, false)
+    digits_number(&text[start..], false)
 }
 
 // The number of a text of digits, with a minus before it or without.

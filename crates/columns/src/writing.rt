@@ -6,11 +6,12 @@ use crate::MINUS;
 use refusals::NO_REFUSAL;
 use refusals::NOT_A_COLUMN;
 use refusals::WRONG_BUFFER_LENGTH;
+ghost use mathlib.Core.List.{_++_};
 ghost use mathlib.Core.Path.{_≡_};
-ghost use Prim.Native.Nat.{_<_};
+ghost use Prim.Native.Nat.{_≤_, _<_};
 ghost use lib.IntN.{natAbs};
-ghost use lib.ListN.{length, replicate};
-ghost use Rattle.columns.specs.Text.{blank};
+ghost use lib.ListN.{length, drop, replicate};
+ghost use Rattle.columns.specs.Text.{blank, AtEnd};
 ghost use Rattle.columns.specs.Column.{digitByte, decimalText, numberText, fitsColumn};
 ghost use Rattle.columns.specs.Calls.{columnWriteRefusal, columnWriteExit, columnFillRefusal, columnFillExit};
 
@@ -31,13 +32,11 @@ pub fn fill_column(buffer: &mut [u8], number: i64) -> u32
     ensures { λ r. ⌜ r ≡ columnFillRefusal (now (buffer .entry)) number ⌝ }
     ensures { λ _. ⌜ now (buffer .exit) ≡ columnFillExit (now (buffer .entry)) number ⌝ }
 {
-    let length = text_length(number);
-    if buffer.len() < length {
+    if !fits_column(buffer.len(), number) {
         return NOT_A_COLUMN;
     }
-    let blanks = buffer.len() - length;
-    fill_blanks(&mut buffer[..blanks]);
-    write_number(&mut buffer[blanks..], number);
+    let at = write_number(buffer, number);
+    fill_blanks(buffer, at);
     NO_REFUSAL
 }
 
@@ -48,33 +47,36 @@ pub fn fits_column(width: usize, number: i64) -> bool
     text_length(number) <= width
 }
 
-fn fill_blanks(buffer: &mut [u8])
-    ensures { λ _. ⌜ now (buffer .exit) ≡ replicate (length (now (buffer .entry))) blank ⌝ }
+// Makes the first bytes of the buffer blanks.
+fn fill_blanks(buffer: &mut [u8], count: usize)
+    requires { ⌜ count ≤ length (now buffer) ⌝ }
+    ensures { λ _. ⌜ now (buffer .exit) ≡ replicate count blank ++ drop count (now (buffer .entry)) ⌝ }
 {
     let mut at = 0;
-    while at < buffer.len() {
+    while at < count {
         buffer[at] = BLANK;
         at += 1;
     }
 }
 
-// Fills a buffer that is just as long as the number's text with that text.
-fn write_number(buffer: &mut [u8], number: i64)
-    requires { ⌜ length (now buffer) ≡ length (numberText number) ⌝ }
-    ensures { λ _. ⌜ now (buffer .exit) ≡ numberText number ⌝ }
+// Writes the number's text at the end of the buffer, and answers its place.
+fn write_number(buffer: &mut [u8], number: i64) -> usize
+    requires { ⌜ length (numberText number) ≤ length (now buffer) ⌝ }
+    ensures { λ r. ⌜ AtEnd (now (buffer .entry)) (numberText number) r (now (buffer .exit)) ⌝ }
 {
+    let digits = write_digits(buffer, magnitude(number));
     if number < 0 {
-        buffer[0] = MINUS;
-        write_digits(&mut buffer[1..], magnitude(number));
-        return;
+        let at = digits - 1;
+        buffer[at] = MINUS;
+        return at;
     }
-    write_digits(buffer, magnitude(number));
+    digits
 }
 
-// Fills a buffer that is just as long as the decimal text with that text.
-fn write_digits(buffer: &mut [u8], number: u64)
-    requires { ⌜ length (now buffer) ≡ length (decimalText number) ⌝ }
-    ensures { λ _. ⌜ now (buffer .exit) ≡ decimalText number ⌝ }
+// Writes the decimal text at the end of the buffer, and answers its place.
+fn write_digits(buffer: &mut [u8], number: u64) -> usize
+    requires { ⌜ length (decimalText number) ≤ length (now buffer) ⌝ }
+    ensures { λ r. ⌜ AtEnd (now (buffer .entry)) (decimalText number) r (now (buffer .exit)) ⌝ }
 {
     let mut rest = number;
     let mut at = buffer.len();
@@ -83,7 +85,9 @@ fn write_digits(buffer: &mut [u8], number: u64)
         buffer[at] = digit_byte(rest % 10);
         rest /= 10;
     }
-    buffer[0] = digit_byte(rest);
+    at -= 1;
+    buffer[at] = digit_byte(rest);
+    at
 }
 
 fn digit_byte(digit: u64) -> u8

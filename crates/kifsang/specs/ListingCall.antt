@@ -3,9 +3,8 @@ use mathlib.Core.List.{List, [], _∷_}
 use Prim.Native.Nat.{ℕ}
 use lib.ListN.{length}
 use Rattle.refusals.specs.Answers.{unlessRefused}
+use Rattle.listing.specs.Listing.{listingText, listingRefusal, listingExit}
 use Rattle.rows.specs.Orders.{orderCount}
-use Rattle.columns.specs.Listing.{listingText}
-use Rattle.columns.specs.Calls.{listingRefusal, listingExit}
 use Rattle.kifsang.specs.Refusals.{ownFirst, wordCountCheck}
 
 module _ (group subgroup smoothed : List ℕ) where

@@ -34,6 +34,6 @@ pub extern "C" fn kifsang_fill_listing(
     let group_values = first_values(group);
     let subgroup_values = first_values(subgroup);
     let smoothed_values = first_values(smoothed);
-    let answer = columns::fill_listing(&group_values, &subgroup_values, &smoothed_values, buffer);
+    let answer = listing::fill_listing(&group_values, &subgroup_values, &smoothed_values, buffer);
     hand_over(answer, written)
 }

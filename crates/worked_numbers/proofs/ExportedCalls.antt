@@ -26,9 +26,9 @@ use Rattle.verdict.specs.Tests.{raised, atMost, isWithin, isOver}
 use Rattle.verdict.specs.Call.{combined, verdictOf, verdictRefusal}
 use Rattle.observation.specs.Average.{averageOf, peakOf}
 use Rattle.columns.specs.Text.{bytesOf, rightJustified}
-use Rattle.columns.specs.Column.{isDigit, areDigits, isWhole, placeValue, wholeNumber, negativeNumber, signedNumber, afterBlanks, columnNumber, decimalWithin, decimalText, numberText, columnText}
-use Rattle.columns.specs.Listing.{header, orderLine, leftOut, orderText, ordersText, listingText}
-use Rattle.columns.specs.Calls.{columnReadAnswer, listingRefusal, listingExit}
+use Rattle.columns.specs.Column.{areDigits, isWhole, placeValue, wholeNumber, negativeNumber, signedNumber, afterBlanks, columnNumber, decimalWithin, decimalText, numberText, columnText}
+use Rattle.columns.specs.Calls.{columnReadAnswer}
+use Rattle.listing.specs.Listing.{header, orderLine, orderText, ordersText, listingText, listingRefusal, listingExit}
 use Rattle.kifsang.specs.Kinds.{kinds, isKind, kindWith}
 use Rattle.kifsang.specs.GroupCalls.{groupCallRefusal, groupCallExit, rowCallRefusal, rowCallExit, distortionCallRefusal, distortionCallExit}
 use Rattle.kifsang.specs.Words.{recordOf, wordsOf}
@@ -192,7 +192,7 @@ columns-worked :
     (columnFor "       7 ", (13, pos 77)) ∷
     (columnFor "      7", (13, pos 77)) ∷
     [])
-unfolding Alike columnFor columnCallExit columnReadAnswer bytesOf isDigit areDigits isWhole placeValue wholeNumber negativeNumber signedNumber afterBlanks columnNumber
+unfolding Alike columnFor columnCallExit columnReadAnswer bytesOf areDigits isWhole placeValue wholeNumber negativeNumber signedNumber afterBlanks columnNumber
 columns-worked = refl
 
 -- ---- kifsang_fill_listing
@@ -220,5 +220,5 @@ listings-worked :
     (listingFor 40 40 0 (replicate 9 7), (102, (77, replicate 9 7))) ∷
     (listingFor 40 40 40 (replicate 1639 7), (14, (77, replicate 1639 7))) ∷
     [])
-unfolding Alike listingFor listingCallRefusal listingCallCountExit listingCallExit listingRefusal listingExit listingText ordersText orderText leftOut orderLine header columnText rightJustified numberText decimalText decimalWithin bytesOf
+unfolding Alike listingFor listingCallRefusal listingCallCountExit listingCallExit listingRefusal listingExit listingText ordersText orderText orderLine header columnText rightJustified numberText decimalText decimalWithin bytesOf
 listings-worked = refl

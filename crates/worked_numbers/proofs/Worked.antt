@@ -33,7 +33,7 @@ use Rattle.verdict.specs.Tests.{raised, atMost, isWithin, isOver}
 use Rattle.verdict.specs.Call.{combined, verdictOf, verdictRefusal, verdictAnswer}
 use Rattle.observation.specs.Average.{averageOf, peakOf}
 use Rattle.columns.specs.Text.{bytesOf}
-use Rattle.columns.specs.Column.{isDigit, areDigits, isWhole, placeValue, wholeNumber, negativeNumber, signedNumber, afterBlanks, columnNumber}
+use Rattle.columns.specs.Column.{areDigits, isWhole, placeValue, wholeNumber, negativeNumber, signedNumber, afterBlanks, columnNumber}
 use Rattle.columns.specs.Calls.{columnReadAnswer}
 use Rattle.accuracy.specs.Distance.{InRange}
 use Rattle.accuracy.proofs.GroupDistance.{lines-accepted, lines-of-group}
@@ -63,7 +63,7 @@ pulse-group kind system value known alike order known-order =
     )
 
 pub worked-numbers : Everywhere Holds cases
-unfolding cases Holds tableEntry nearest quarterSine denominator added takenAway term factorial isSystem rootOf largest weightsOf wholeLines weightedSum sumOver tabulate anyOf rowOf recordOf recordAfter emptyRecord freshRefusal freshAnswer bookAt nextBook withRow rowChecks addRowRefusal addRowAnswer noneAbove allZero isSound smoothedNext bookStep smoothedValue ownFigures figureIn limitOf overOrder limitInUnits peakLimitInUnits raised atMost isWithin isOver averageOf peakOf combined verdictOf verdictRefusal verdictAnswer whole scale divide bytesOf isDigit areDigits isWhole placeValue wholeNumber negativeNumber signedNumber afterBlanks columnNumber columnReadAnswer
+unfolding cases Holds tableEntry nearest quarterSine denominator added takenAway term factorial isSystem rootOf largest weightsOf wholeLines weightedSum sumOver tabulate anyOf rowOf recordOf recordAfter emptyRecord freshRefusal freshAnswer bookAt nextBook withRow rowChecks addRowRefusal addRowAnswer noneAbove allZero isSound smoothedNext bookStep smoothedValue ownFigures figureIn limitOf overOrder limitInUnits peakLimitInUnits raised atMost isWithin isOver averageOf peakOf combined verdictOf verdictRefusal verdictAnswer whole scale divide bytesOf areDigits isWhole placeValue wholeNumber negativeNumber signedNumber afterBlanks columnNumber columnReadAnswer
 worked-numbers = (
   refl,
   (

@@ -1,21 +1,21 @@
--- `columns::writing::fill_blanks` meets its contract. The loop's invariant: the first `at` bytes are blanks, the others as they were.
-use mathlib.Core.List.{List, _++_, append-nil}
+-- `columns::writing::fill_blanks` meets its contract. The loop's invariant: the first `at` bytes are blanks, the others as they were. The measure is the count of bytes that are left.
+use mathlib.Core.List.{List, _++_}
 use mathlib.Core.Path.{_≡_, refl, ap, _∙_}
-use Prim.Native.Nat.{ℕ, _≤_, _-_}
+use Prim.Native.Nat.{_≤_, _-_}
 use native.Mathlib.Omega.{arith}
 use borrow.Author.Fill.{fill-none, fill-more}
+use borrow.Author.Needs.{needs}
 use lib.ListN.{length, set, drop, replicate, length-set}
-use lib.Seq.{drop-length}
 use Rattle.columns.specs.Text.{blank}
 use Rattle.columns.proofs.writing.fill_blanks.Statement.{statement}
 use Rattle.columns.proofs.writing.fill_blanks.Tie as tie
 
 abbrev Inv-loop : tie.InvT-loop
-Inv-loop buffer₀ at₀ buffer at =
-    (at ≤ length buffer₀) × (length buffer ≡ length buffer₀) × (buffer ≡ replicate at blank ++ drop at buffer₀)
+Inv-loop buffer₀ count at₀ buffer at =
+    (at ≤ count) × (length buffer ≡ length buffer₀) × (buffer ≡ replicate at blank ++ drop at buffer₀)
 
 abbrev μ-loop : tie.MeasureT-loop
-μ-loop buffer₀ at₀ buffer at = length buffer₀ - at
+μ-loop buffer₀ count at₀ buffer at = count - at
 
 loop-holds : tie.Need-loop-holds Inv-loop μ-loop
 loop-holds c = (omega arith, refl, fill-none (c .args .buffer .now) blank)
@@ -26,20 +26,25 @@ loop-again c =
     let buffer₀ = c .before .before .args .buffer .now in (
       omega arith,
       simp length-set (l .inv .1),
-      ap (λ (b : List ℕ). set b (l .at) blank) (l .inv .2) ∙ fill-more (l .at) blank buffer₀ (omega arith),
+      ap (λ (b : List _). set b (l .at) blank) (l .inv .2) ∙ fill-more (l .at) blank buffer₀ (omega arith),
     )
-
-same-length : tie.Need-same-length Inv-loop μ-loop
-same-length c = c .before .loop .inv .1
 
 returns : tie.Need-returns Inv-loop μ-loop
 returns c =
     let l = c .before .loop in
-    let buffer₀ = c .before .before .args .buffer .now in
-    let all : l .at ≡ length buffer₀ = omega arith in
-    l .inv .2 ∙ rw (all, drop-length buffer₀, append-nil)
+    let all : l .at ≡ c .before .before .args .count = omega arith in
+    rw all at (l .inv .2)
 
 pub fill-blanks-spec : {M : Type 1} → statement M
 fill-blanks-spec =
     tie.close
-    (tie.spec Inv-loop μ-loop loop-holds (λ c. omega arith) (λ c. omega arith) (λ c. omega arith) loop-again same-length returns)
+    (tie.spec
+    Inv-loop
+    μ-loop
+    loop-holds
+    (λ c. omega arith)
+    (λ c. omega arith)
+    (λ c. omega arith)
+    loop-again
+    (λ c. search needs)
+    returns)
