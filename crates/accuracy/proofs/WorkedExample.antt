@@ -2,7 +2,7 @@
 -- Of the pulse's harmonic groups, document 01's 8944, the third order is then judged over, close and within at K = 3883, 3884 .. 3893 and 3894.
 use mathlib.Core.Path.{_≡_, refl, sym, ap, subst, fun-ext, _∙_}
 use mathlib.Core.List.{List, [], _∷_}
-use Prim.Native.Nat.{ℕ, _-_}
+use Prim.Native.Nat.{ℕ, _+_, _-_}
 use native.Mathlib.Omega.{arith}
 use lib.IntN.{ℤ}
 use lib.ListN.{replicate}
@@ -12,7 +12,7 @@ use Rattle.algebra.specs.Lists.{tabulate, anyOf}
 use Rattle.algebra.specs.Rounding.{nearest}
 use Rattle.algebra.specs.Weighted.{sumOver}
 use Rattle.integers.specs.Root.{rootOf}
-use Rattle.spectrum.specs.Line.{lineCount, linesOf}
+use Rattle.spectrum.specs.Line.{lineCount, linesFrom, linesOf}
 use Rattle.spectrum.proofs.Pulse.{pulse, pulse-in-range, pulse-line}
 use Rattle.groups.specs.declared.Kind.{Kind}
 use Rattle.groups.specs.declared.Kind.the-variants.{HarmonicGroup}
@@ -76,8 +76,8 @@ unfolding pulse
 pulse-window = record { whole-window = refl; samples = pulse-in-range }
 
 pulse-lines : linesOf pulse ≡ tabulate lineCount (λ k. 4000000)
-unfolding linesOf
-pulse-lines = ap (tabulate lineCount) (fun-ext pulse-line)
+unfolding linesOf linesFrom
+pulse-lines = ap (tabulate lineCount) (fun-ext (λ i. pulse-line (0 + i)))
 
 pulse-value : groupAnswer HarmonicGroup 10 3 (tabulate lineCount (λ k. 4000000)) .value ≡ 8944
 unfolding groupAnswer groupRefusal isSystem isOrder groupValue rootOf largest weightsOf wholeLines weightedSum sumOver tabulate anyOf

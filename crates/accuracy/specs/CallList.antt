@@ -8,7 +8,7 @@ use Rattle.observation.specs.declared.Observation.{Observation}
 use Rattle.observation.specs.Book.{Book, emptyBook}
 use Rattle.observation.specs.Smoothing.{reported}
 use Rattle.observation.specs.Calls.{freshAnswer}
-use Rattle.observation.specs.CallList.{recordAfter}
+use Rattle.observation.specs.RecordAfter.{recordAfter}
 use Rattle.observation.specs.BookCalls.{accepts, EachAccepted, Fed, bookAfter, ownValues}
 use Rattle.accuracy.specs.ExactBook.{exact}
 

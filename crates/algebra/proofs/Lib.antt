@@ -1,5 +1,7 @@
 -- The theorems of the shared mathematics.
 pub mod Integer
+pub mod Signed
+pub mod Tests
 pub mod Ring
 pub mod SumTo
 pub mod Weighted

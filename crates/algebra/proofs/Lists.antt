@@ -3,13 +3,13 @@ use mathlib.Core.Path.{_≡_, refl, sym, _∙_}
 use mathlib.Core.Logic.{⊎-elim}
 use mathlib.Core.Bool.{Bool, true, false, _||_}
 use mathlib.Core.List.{List, [], _∷_, _++_, append-assoc, append-nil}
-use Prim.Native.Nat.{ℕ, zero, suc, _+_, _<_, _≤_}
+use Prim.Native.Nat.{ℕ, zero, suc, min, _+_, _<_, _≤_}
 use native.Mathlib.Numerals.{add-one}
-use native.Mathlib.Nat.{eq-or-lt-of-le, le-of-suc-le-suc, not-suc-le-zero}
+use native.Mathlib.Nat.{add-zero, add-suc, eq-or-lt-of-le, le-of-suc-le-suc, not-suc-le-zero}
 use native.Mathlib.Decide.{decLt}
 use native.Mathlib.Omega.{arith}
-use lib.ListN.{length, getD, take, drop, set, replicate, length-append, length-drop, length-replicate, getD-replicate, List·getD-append, List·getD-eq-default}
-use lib.Seq.{drop-cons, drop-length, getD-at, set-at, length-take-le, getD-take, getD-drop, ext-getD}
+use lib.ListN.{length, getD, take, drop, set, replicate, length-append, length-drop, length-replicate, getD-replicate, drop-of-length-le, List·getD-append, List·getD-eq-default}
+use lib.Seq.{take-all, take-length, drop-cons, drop-length, getD-at, set-at, length-take-le, getD-take, getD-drop, ext-getD}
 use Rattle.algebra.specs.Lists.{tabulate, anyOf}
 
 module _ {ℓ} {A : Type ℓ} where
@@ -28,6 +28,13 @@ module _ {ℓ} {A : Type ℓ} where
       List·getD-append (tabulate n f) (f n ∷ []) d i (rw (length-tabulate n f) l) ∙ getD-tabulate n f i d l)
       (eq-or-lt-of-le (le-of-suc-le-suc h))
 
+  -- a front of m entries and the n after them
+  pub tabulate-split : (m n : ℕ) (f : ℕ → A) → tabulate (m + n) f ≡ tabulate m f ++ tabulate n (λ i. f (m + i))
+  unfolding tabulate
+  tabulate-split m zero f = rw add-zero (sym (append-nil (tabulate m f)))
+  tabulate-split m (suc n) f =
+      rw (add-suc, tabulate-split m n f) (append-assoc (tabulate m f) (tabulate n (λ i. f (m + i))) (f (m + n) ∷ []))
+
   -- the entry after a front of n entries is written
   pub set-tabulate : (n : ℕ) (f : ℕ → A) (y : A) (ys : List A) → set (tabulate n f ++ y ∷ ys) n (f n) ≡ tabulate (n + 1) f ++ ys
   unfolding tabulate
@@ -43,6 +50,25 @@ module _ {ℓ} {A : Type ℓ} where
   -- a front of as many entries as the list has is the whole
   pub filled-tabulate : (n : ℕ) (f : ℕ → A) (l : List A) → length l ≡ n → tabulate n f ++ drop n l ≡ tabulate n f
   filled-tabulate n f l e = rw (← e, drop-length l) (append-nil (tabulate (length l) f))
+
+  -- a list has no more than its length to take, and none past it to leave out
+  pub take-min : (n : ℕ) (l : List A) → take (min n (length l)) l ≡ take n l
+  take-min n l = by-length (decLt n (length l))
+    where
+      by-length : Dec (n < length l) → take (min n (length l)) l ≡ take n l
+      by-length (yes h) = let cut : min n (length l) ≡ n = omega arith in rw cut
+      by-length (no f) =
+          let cut : min n (length l) ≡ length l = omega arith in
+          rw (cut, take-length l, take-all n l (omega arith))
+
+  pub drop-min : (n : ℕ) (l : List A) → drop (min n (length l)) l ≡ drop n l
+  drop-min n l = by-length (decLt n (length l))
+    where
+      by-length : Dec (n < length l) → drop (min n (length l)) l ≡ drop n l
+      by-length (yes h) = let cut : min n (length l) ≡ n = omega arith in rw cut
+      by-length (no f) =
+          let cut : min n (length l) ≡ length l = omega arith in
+          rw (cut, drop-length l) (sym (drop-of-length-le l {i = n} (omega arith)))
 
   -- a test that fails at place i has the same answer from i + 1 on
   pub anyOf-drop : (passes : A → Bool) (l : List A) (i : ℕ) (d : A) → i < length l → passes (getD l i d) ≡ false → anyOf passes (drop (i + 1) l) ≡ anyOf passes (drop i l)

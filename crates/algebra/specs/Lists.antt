@@ -1,5 +1,5 @@
--- Lists by their places, and a test over a list.
-use mathlib.Core.Bool.{Bool, false, _||_}
+-- Lists by their places, a test over a list, and a list of tests.
+use mathlib.Core.Bool.{Bool, true, false, _&&_, _||_}
 use mathlib.Core.List.{List, [], _∷_, _++_}
 use Prim.Native.Nat.{ℕ, zero, suc}
 
@@ -13,3 +13,8 @@ module _ {ℓ} {A : Type ℓ} where
   unfoldable pub anyOf : (A → Bool) → List A → Bool
   anyOf passes [] = false
   anyOf passes (x ∷ xs) = passes x || anyOf passes xs
+
+-- each of some tests passes
+abbrev pub allTrue : List Bool → Bool
+allTrue [] = true
+allTrue (test ∷ tests) = test && allTrue tests

@@ -1,11 +1,12 @@
 -- Newton's iteration for the whole part of a square root: what one step keeps of a candidate r for the root of n, what the first candidate is, and that the last one is the root.
 use mathlib.Core.Path.{sym, subst}
 use Prim.Native.Nat.{ℕ, _+_, _*_, _/_, _%_, _^_, _≤_, _<_}
-use native.Mathlib.Nat.{le-dest, mul-le-mul, mul-le-mul-left, mul-le-mul-right, lt-mul-div-succ, le-div-iff-mul-le, mod-eq-of-lt}
+use native.Mathlib.Nat.{mul-le-mul, mul-le-mul-left, mul-le-mul-right, lt-mul-div-succ, le-div-iff-mul-le, mod-eq-of-lt}
 use native.Mathlib.Decide.{decLe}
 use native.Mathlib.Omega.{arith}
 use lib.Count.{leadingZeros, leading-length}
 use lib.Pow.{pow-pos, pow-mono, pow-add}
+use Rattle.algebra.proofs.Weighted.{double-product-le}
 use Rattle.integers.proofs.Root.{Root}
 
 -- A candidate for the root of n: above 0, not below the root, and at most 2^32.
@@ -14,21 +15,11 @@ pub record Candidate (n r : ℕ) : Type 0 where
   pub not-below : n < (r + 1) * (r + 1)
   pub bounded : r ≤ 2 ^ 32
 
-product-le-squares-of-le : (a b : ℕ) → a ≤ b → 2 * (a * b) ≤ a * a + b * b
-product-le-squares-of-le a b le = subst (λ (x : ℕ). 2 * (a * x) ≤ a * a + x * x) (le-dest le .1) (omega arith)
-
-product-le-squares : (a b : ℕ) → 2 * (a * b) ≤ a * a + b * b
-product-le-squares a b = either (decLe a b)
-  where
-    either : Dec (a ≤ b) → 2 * (a * b) ≤ a * a + b * b
-    either (yes h) = product-le-squares-of-le a b h
-    either (no f) = let other = product-le-squares-of-le b a (omega arith) in omega arith
-
 -- s is the mean of r and q = n / r, rounded down. With k = s + 1: n < r(q + 1) and r + q + 1 ≤ 2k, so n + r² < 2rk ≤ r² + k².
 step-not-below : (n r q s : ℕ) → n < r * (q + 1) → r + q < 2 * s + 2 → n < (s + 1) * (s + 1)
 step-not-below n r q s next mean =
     let twice : r + q + 1 ≤ 2 * (s + 1) = omega arith in
-    omega (arith, mul-le-mul-left r twice, product-le-squares r (s + 1))
+    omega (arith, mul-le-mul-left r twice, double-product-le r (s + 1))
 
 step-above-zero : (n r q s : ℕ) → 0 < n → q < r → n < r * (q + 1) → r + q < 2 * s + 2 → 0 < s
 step-above-zero n r q s pos above next mean = either (decLe 2 r)

@@ -5,8 +5,8 @@ ghost use Rattle.integers.specs.Root.{rootOf};
 // The whole part of the square root of n. The first candidate is the power of 2 with half of n's binary
 // digits, rounded up, from the count of leading zeros: above the root, and at most twice as large. Each
 // step takes a candidate r above the root to (r + n / r) / 2, which is smaller and not below the root.
-// Its relative error is at most half the square of the one before (1, 1/4, 1/40, 1/3000, ..), so that
-// six steps are enough for 64 bits. A candidate is compared with n / r, since its square may not fit.
+// From a relative error e the next is at most e² / (2 + 2e): 1, 1/4, 1/40, 1/3280, .., so that six steps
+// are enough for 64 bits. A candidate is compared with n / r, since its square may not fit.
 pub fn root(n: u64) -> u32
     ensures { λ r. ⌜ r ≡ rootOf n ⌝ }
 {

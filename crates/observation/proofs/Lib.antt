@@ -3,5 +3,5 @@ pub mod NoneAbove
 pub mod Smoothed
 pub mod SoundRecord
 pub mod RecordBooks
-pub mod CallList
+pub mod RecordAfter
 pub mod Worked

@@ -14,9 +14,9 @@ use Rattle.observation.specs.Book.{Book, emptyBook, bookStep}
 use Rattle.observation.specs.Smoothing.{reported}
 use Rattle.observation.specs.Soundness.{isSound}
 use Rattle.observation.specs.Calls.{emptyRecord, freshAnswer, bookAt, nextBook, withRow, addRowRefusal, addRowAnswer}
-use Rattle.observation.specs.CallList.{recordAfter}
+use Rattle.observation.specs.RecordAfter.{recordAfter}
 use Rattle.observation.specs.BookCalls.{accepts, bookCall, bookAfter, ownValues, valueAt, AcceptedFit}
-use Rattle.observation.proofs.SoundRecord.{answer-of-sound, answer-sound, record-after-sound, empty-record-sound, fresh-of-known}
+use Rattle.observation.proofs.SoundRecord.{by-acceptance, answer-sound, empty-record-sound, fresh-of-known}
 
 -- the record with a row added holds the next book of each order
 pub book-at-with-row : (o : Observation) (row : Row) (i : ℕ) → i < orderCount → bookAt (withRow o row) i ≡ nextBook o row i
@@ -48,40 +48,41 @@ record-after-system o [] = refl
 record-after-system o (row ∷ rows) = record-after-system (addRowAnswer o row .observation) rows ∙ answer-system o row
 
 -- a call feeds the book of each order the row's own value, or changes nothing where the row is refused
-pub book-at-answer : (o : Observation) (row : Row) (i : ℕ) → i < orderCount → isSound o ≡ true → bookAt (addRowAnswer o row .observation) i ≡ bookCall reported (accepts (o .system)) (bookAt o i) (record { row = row; value = getD (row .values) i 0 })
+pub book-at-answer :
+    (o : Observation) (row : Row) (i : ℕ) → i < orderCount → isSound o ≡ true →
+    bookAt (addRowAnswer o row .observation) i
+    ≡ bookCall reported (accepts (o .system)) (bookAt o i) (record { row = row; value = valueAt i row })
 unfolding bookCall bookAt nextBook
 book-at-answer o row i inside sound =
-    ap (λ (after : Observation). bookAt after i) (answer-of-sound o row sound) ∙ either (accepts (o .system) (o .windows) row)
-  where
-    either : (taken : Bool) → bookAt (cond taken (withRow o row) o) i ≡ cond taken (nextBook o row i) (bookAt o i)
-    either true = book-at-with-row o row i inside
-    either false = refl
+    by-acceptance
+    (λ after. bookAt after i ≡ cond (accepts (o .system) (o .windows) row) (nextBook o row i) (bookAt o i)) o row sound
+    (λ e. rw e (book-at-with-row o row i inside))
+    (λ e. rw e)
 
 -- the books after a list of calls, from any sound record
-pub book-at-record-after : (o : Observation) (rows : List Row) (i : ℕ) → i < orderCount → isSound o ≡ true → AcceptedFit (o .system) (o .windows) rows → bookAt (recordAfter o rows) i ≡ bookAfter reported (accepts (o .system)) (bookAt o i) (ownValues (valueAt i) rows)
+pub book-at-record-after :
+    (o : Observation) (rows : List Row) (i : ℕ) → i < orderCount → isSound o ≡ true → AcceptedFit (o .system) (o .windows) rows →
+    bookAt (recordAfter o rows) i ≡ bookAfter reported (accepts (o .system)) (bookAt o i) (ownValues (valueAt i) rows)
 unfolding recordAfter bookAfter ownValues
 book-at-record-after o [] i inside sound fits = refl
 book-at-record-after o (row ∷ rows) i inside sound fits =
     let after = addRowAnswer o row .observation in
     let kept = answer-sound o row rows sound fits in
     book-at-record-after after rows i inside (kept .0) (kept .1) ∙
-    (ap (λ (system : ℕ). bookAfter reported (accepts system) (bookAt after i) (ownValues (valueAt i) rows)) (answer-system o row) ∙
-    ap
-    (λ (book : Book reported). bookAfter reported (accepts (o .system)) book (ownValues (valueAt i) rows))
-    (book-at-answer o row i inside sound))
+    rw (answer-system o row, book-at-answer o row i inside sound)
 
 -- "The first gets a fresh record of system 10 or 12": the record after the list has its system, and the reported book of each order
-pub fresh-record-after-system : (system : ℕ) (rows : List Row) → isSystem system ≡ true → recordAfter (freshAnswer system .observation) rows .system ≡ system
+pub fresh-record-after-system :
+    (system : ℕ) (rows : List Row) → isSystem system ≡ true →
+    recordAfter (freshAnswer system .observation) rows .system ≡ system
 unfolding emptyRecord
 fresh-record-after-system system rows known =
     record-after-system (freshAnswer system .observation) rows ∙ ap (λ (o : Observation). o .system) (fresh-of-known system known)
 
-pub fresh-record-after-sound : (system : ℕ) (rows : List Row) → isSystem system ≡ true → AcceptedFit system 0 rows → isSound (recordAfter (freshAnswer system .observation) rows) ≡ true
-unfolding emptyRecord
-fresh-record-after-sound system rows known fits =
-    rw (fresh-of-known system known) (record-after-sound (emptyRecord system) rows (empty-record-sound system known) fits)
-
-pub fresh-record-after-books : (system : ℕ) (rows : List Row) (i : ℕ) → isSystem system ≡ true → i < orderCount → AcceptedFit system 0 rows → bookAt (recordAfter (freshAnswer system .observation) rows) i ≡ bookAfter reported (accepts system) (emptyBook reported) (ownValues (valueAt i) rows)
+pub fresh-record-after-books :
+    (system : ℕ) (rows : List Row) (i : ℕ) → isSystem system ≡ true → i < orderCount → AcceptedFit system 0 rows →
+    bookAt (recordAfter (freshAnswer system .observation) rows) i
+    ≡ bookAfter reported (accepts system) (emptyBook reported) (ownValues (valueAt i) rows)
 unfolding emptyRecord
 fresh-record-after-books system rows i known inside fits =
     rw (fresh-of-known system known)

@@ -1,45 +1,31 @@
--- What a sound record says of its numbers, and that it stays sound: the fresh record is sound, a row that is accepted leaves a sound record, and so does a list of calls.
+-- What a sound record says of its numbers, what an accepted call says, and that a record stays sound: the empty record is, and a call leaves a sound record sound.
 -- A record's lists may have any length here: past its end a list holds zeros.
-use mathlib.Core.Path.{_≡_, refl, sym, _∙_}
-use mathlib.Core.Logic.{_⊎_, inl, inr, ⊎-elim}
-use mathlib.Core.Bool.{Bool, true, false, not, _&&_, cond}
-use mathlib.Core.List.{List, [], _∷_}
+use mathlib.Core.Path.{_≡_, refl}
+use mathlib.Core.Bool.{Bool, true, false, not, cond}
+use mathlib.Core.List.{List, _∷_}
 use Prim.Native.Nat.{ℕ, _+_, _*_, _<_, _≤_}
 use native.Mathlib.Nat.{max-le}
 use native.Mathlib.Omega.{arith}
-use borrow.Author.Tests.{eqb-true, leb-true, leb-false, le-leb, ne-eqb, not-false}
-use lib.Dec.{eqb, leb}
+use borrow.Author.Tests.{eqb-true, eq-eqb, ne-eqb, leb-true, leb-false, le-leb, not-false}
+use lib.Dec.{leb}
 use lib.ListN.{getD}
 use Rattle.algebra.specs.Lists.{anyOf}
-use Rattle.rows.specs.Systems.{isSystem, refusedSystem}
+use Rattle.algebra.proofs.Tests.{allTrue-at}
+use Rattle.rows.specs.Systems.{isSystem}
 use Rattle.rows.specs.Orders.{orderCount}
 use Rattle.refusals.specs.Numbers.{noRefusal, unknownSystem, unsoundRecord, otherSystem, recordFull}
 use Rattle.refusals.specs.Answers.{firstFault}
-use Rattle.rows.proofs.Systems.{refused-system-known}
-use Rattle.refusals.proofs.Answers.{no-fault}
+use Rattle.refusals.proofs.Answers.{no-fault, no-faults, unlessRefused-accepted, unlessRefused-refused}
 use Rattle.rows.specs.declared.Row.{Row}
 use Rattle.observation.specs.declared.Observation.{Observation}
 use Rattle.observation.specs.Book.{bookStep, smoothedNext}
 use Rattle.observation.specs.Smoothing.{reported}
-use Rattle.observation.specs.Soundness.{mostWindows, noneAbove, allZero, isSound}
+use Rattle.observation.specs.Soundness.{mostWindows, noneAbove, allZero, soundTests, isSound}
 use Rattle.rows.specs.Rows.{largestValue, ValuesFit}
 use Rattle.observation.specs.Calls.{emptyRecord, freshRefusal, freshAnswer, bookAt, nextBook, withRow, rowChecks, addRowRefusal, addRowAnswer}
-use Rattle.observation.specs.CallList.{recordAfter}
 use Rattle.observation.specs.BookCalls.{accepts, EachAccepted, AcceptedFit}
 use Rattle.observation.proofs.NoneAbove.{getD-le-of-none-above, none-above-tabulate}
 use Rattle.observation.proofs.Smoothed.{smoothed-next-le}
-
-and-left : (a b : Bool) → (a && b) ≡ true → a ≡ true
-and-left true b e = refl
-and-left false b e = e
-
-and-right : (a b : Bool) → (a && b) ≡ true → b ≡ true
-and-right true b e = e
-and-right false b e = absurd (mathlib.Core.Bool.true≢false (sym e))
-
-true-or-false : (b : Bool) → (b ≡ true) ⊎ (b ≡ false)
-true-or-false true = inl refl
-true-or-false false = inr refl
 
 pub record SoundParts (o : Observation) : Type 0 where
   pub system-known : isSystem (o .system) ≡ true
@@ -51,21 +37,13 @@ pub record SoundParts (o : Observation) : Type 0 where
 pub sound-parts : (o : Observation) → isSound o ≡ true → SoundParts o
 unfolding isSound
 sound-parts o e =
-    let known = isSystem (o .system) in
-    let few = leb (o .windows) mostWindows in
-    let sums = noneAbove (o .windows * largestValue) (o .sum) in
-    let peaks = noneAbove largestValue (o .peak) in
-    let values = noneAbove largestValue (o .smoothed) in
-    let to-smoothed : (known && few && sums && peaks && values) ≡ true = and-left _ _ e in
-    let to-peaks : (known && few && sums && peaks) ≡ true = and-left _ _ to-smoothed in
-    let to-sums : (known && few && sums) ≡ true = and-left _ _ to-peaks in
-    let to-windows : (known && few) ≡ true = and-left _ _ to-sums in
+    let passed = allTrue-at (soundTests o) e in
     record {
-      system-known = and-left _ _ to-windows;
-      windows-le = leb-true _ _ (and-right known few to-windows);
-      sum-le = λ i. getD-le-of-none-above _ _ i (and-right (known && few) sums to-sums);
-      peak-le = λ i. getD-le-of-none-above _ _ i (and-right (known && few && sums) peaks to-peaks);
-      smoothed-le = λ i. getD-le-of-none-above _ _ i (and-right (known && few && sums && peaks) values to-smoothed);
+      system-known = passed 0;
+      windows-le = leb-true _ _ (passed 1);
+      sum-le = λ i. getD-le-of-none-above _ _ i (passed 2);
+      peak-le = λ i. getD-le-of-none-above _ _ i (passed 3);
+      smoothed-le = λ i. getD-le-of-none-above _ _ i (passed 4);
     }
 
 pub empty-record-sound : (system : ℕ) → isSystem system ≡ true → isSound (emptyRecord system) ≡ true
@@ -76,37 +54,42 @@ pub fresh-of-known : (system : ℕ) → isSystem system ≡ true → freshAnswer
 unfolding freshAnswer freshRefusal
 fresh-of-known system e = rw e
 
-pub fresh-of-unknown : (system : ℕ) → isSystem system ≡ false → freshAnswer system .observation ≡ emptyRecord refusedSystem
-unfolding freshAnswer freshRefusal
-fresh-of-unknown system e = rw e
+-- a row that a book with this system and count accepts
+pub record AcceptedRow (system count : ℕ) (row : Row) : Type 0 where
+  pub system-known : isSystem (row .system) ≡ true
+  pub system-own : row .system ≡ system
+  pub room : count < mostWindows
 
--- the fresh record is sound, refused or not
-pub fresh-sound : (system : ℕ) → isSound (freshAnswer system .observation) ≡ true
-fresh-sound system =
-    ⊎-elim
-    (λ (e : isSystem system ≡ true). rw (fresh-of-known system e) (empty-record-sound system e))
-    (λ (e : isSystem system ≡ false). rw (fresh-of-unknown system e) (empty-record-sound refusedSystem refused-system-known))
-    (true-or-false (isSystem system))
-
--- a call that is not refused has a sound record, and a row that passes its own checks
-pub not-refused : (o : Observation) (row : Row) → addRowRefusal o row ≡ noRefusal → (isSound o ≡ true) × (firstFault (rowChecks (o .system) (o .windows) row) ≡ noRefusal)
-unfolding addRowRefusal
-not-refused o row e =
-    let passed = no-fault (not (isSound o)) unsoundRecord (firstFault (rowChecks (o .system) (o .windows) row)) (omega arith) e in
-    (not-false (isSound o) (passed .0), passed .1)
-
--- a row that is accepted finds room
-pub accepted-not-full : (system count : ℕ) (row : Row) → firstFault (rowChecks system count row) ≡ noRefusal → count < mostWindows
+pub accepted-row :
+    (system count : ℕ) (row : Row) → firstFault (rowChecks system count row) ≡ noRefusal → AcceptedRow system count row
 unfolding rowChecks
-accepted-not-full system count row e =
-    let unknown = not (isSystem (row .system)) in
-    let other = not (eqb (row .system) system) in
-    let full = leb mostWindows count in
-    let after-unknown = no-fault unknown unknownSystem (cond other otherSystem (cond full recordFull noRefusal)) (omega arith) e in
-    let after-other = no-fault other otherSystem (cond full recordFull noRefusal) (omega arith) (after-unknown .1) in
-    leb-false _ _ (no-fault full recordFull noRefusal (omega arith) (after-other .1) .0)
+accepted-row system count row e =
+    let passed = no-faults (rowChecks system count row) refl e in
+    record {
+      system-known = not-false _ (passed unknownSystem);
+      system-own = eqb-true _ _ (not-false _ (passed otherSystem));
+      room = leb-false _ _ (passed recordFull);
+    }
 
-pub with-row-sound : (o : Observation) (row : Row) → isSound o ≡ true → o .windows < mostWindows → ValuesFit row → isSound (withRow o row) ≡ true
+-- the same of the book's test
+pub accepts-row : (system count : ℕ) (row : Row) → accepts system count row ≡ true → AcceptedRow system count row
+unfolding accepts
+accepts-row system count row e = accepted-row system count row (eqb-true _ _ e)
+
+-- a call that is not refused: its record is sound, and accepts the row
+pub record AcceptedCall (o : Observation) (row : Row) : Type 0 where
+  pub sound : isSound o ≡ true
+  pub row-accepted : AcceptedRow (o .system) (o .windows) row
+
+pub accepted-call : (o : Observation) (row : Row) → addRowRefusal o row ≡ noRefusal → AcceptedCall o row
+unfolding addRowRefusal
+accepted-call o row e =
+    let passed = no-fault (not (isSound o)) unsoundRecord _ (omega arith) e in
+    record { sound = not-false _ (passed .0); row-accepted = accepted-row (o .system) (o .windows) row (passed .1) }
+
+pub with-row-sound :
+    (o : Observation) (row : Row) → isSound o ≡ true → o .windows < mostWindows → ValuesFit row →
+    isSound (withRow o row) ≡ true
 unfolding isSound withRow nextBook bookAt bookStep ValuesFit
 with-row-sound o row sound room fits =
     let parts = sound-parts o sound in
@@ -124,37 +107,50 @@ with-row-sound o row sound room fits =
     )
 
 -- a sound record is refused a row by the row's own checks alone
-pub answer-of-sound : (o : Observation) (row : Row) → isSound o ≡ true → addRowAnswer o row .observation ≡ cond (accepts (o .system) (o .windows) row) (withRow o row) o
+addRowAnswer-sound :
+    (o : Observation) (row : Row) → isSound o ≡ true →
+    addRowAnswer o row .observation ≡ cond (accepts (o .system) (o .windows) row) (withRow o row) o
 unfolding addRowAnswer addRowRefusal accepts
-answer-of-sound o row sound = rw sound
+addRowAnswer-sound o row sound = rw sound
 
-pub answer-of-accepted : (o : Observation) (row : Row) → isSound o ≡ true → accepts (o .system) (o .windows) row ≡ true → addRowAnswer o row .observation ≡ withRow o row
-answer-of-accepted o row sound taken = answer-of-sound o row sound ∙ rw taken
+-- and a row of its own system only where it is full
+pub addRowRefusal-own :
+    (o : Observation) (row : Row) → isSound o ≡ true → row .system ≡ o .system →
+    addRowRefusal o row ≡ cond (leb mostWindows (o .windows)) recordFull noRefusal
+unfolding addRowRefusal rowChecks
+addRowRefusal-own o row sound own = rw (sound, own, sound-parts o sound .system-known, eq-eqb (o .system) (o .system) refl)
 
-pub answer-of-refused : (o : Observation) (row : Row) → isSound o ≡ true → accepts (o .system) (o .windows) row ≡ false → addRowAnswer o row .observation ≡ o
-answer-of-refused o row sound refused = answer-of-sound o row sound ∙ rw refused
+-- the record that an accepted call returns, and the one that a refused call returns
+pub addRowAnswer-accepted : (o : Observation) (row : Row) → addRowRefusal o row ≡ noRefusal → addRowAnswer o row .observation ≡ withRow o row
+unfolding addRowAnswer
+addRowAnswer-accepted o row e = unlessRefused-accepted _ _ _ e
 
-pub accepts-not-full : (system count : ℕ) (row : Row) → accepts system count row ≡ true → count < mostWindows
-unfolding accepts
-accepts-not-full system count row e = accepted-not-full system count row (eqb-true _ _ e)
+pub addRowAnswer-refused : (o : Observation) (row : Row) → (addRowRefusal o row ≡ noRefusal → ⊥) → addRowAnswer o row .observation ≡ o
+unfolding addRowAnswer
+addRowAnswer-refused o row e = unlessRefused-refused _ _ _ e
+
+-- a call feeds the books of a sound record, or changes nothing where they do not accept the row
+pub by-acceptance :
+    (P : Observation → Type 0) (o : Observation) (row : Row) → isSound o ≡ true →
+    (accepts (o .system) (o .windows) row ≡ true → P (withRow o row)) →
+    (accepts (o .system) (o .windows) row ≡ false → P o) →
+    P (addRowAnswer o row .observation)
+by-acceptance P o row sound taken left =
+    rw (addRowAnswer-sound o row sound) (either (accepts (o .system) (o .windows) row) taken left)
+  where
+    either : (accepted : Bool) → (accepted ≡ true → P (withRow o row)) → (accepted ≡ false → P o) → P (cond accepted (withRow o row) o)
+    either true a b = a refl
+    either false a b = b refl
 
 -- a call leaves a sound record sound, and leaves the later rows what they were to the record
-pub answer-sound : (o : Observation) (row : Row) (rows : List Row) → isSound o ≡ true → AcceptedFit (o .system) (o .windows) (row ∷ rows) → (isSound (addRowAnswer o row .observation) ≡ true) × AcceptedFit (addRowAnswer o row .observation .system) (addRowAnswer o row .observation .windows) rows
+pub answer-sound :
+    (o : Observation) (row : Row) (rows : List Row) → isSound o ≡ true → AcceptedFit (o .system) (o .windows) (row ∷ rows) →
+    let after = addRowAnswer o row .observation in
+    (isSound after ≡ true) × AcceptedFit (after .system) (after .windows) rows
 unfolding EachAccepted withRow
 answer-sound o row rows sound fits =
-    ⊎-elim
-    (λ (e : accepts (o .system) (o .windows) row ≡ true).
+    by-acceptance (λ after. (isSound after ≡ true) × AcceptedFit (after .system) (after .windows) rows) o row sound
+    (λ e.
     let both : ValuesFit row × AcceptedFit (o .system) (o .windows + 1) rows = rw e at fits in
-    rw (answer-of-accepted o row sound e)
-    (with-row-sound o row sound (accepts-not-full (o .system) (o .windows) row e) (both .0), both .1))
-    (λ (e : accepts (o .system) (o .windows) row ≡ false).
-    rw (answer-of-refused o row sound e) (sound, rw e at fits))
-    (true-or-false (accepts (o .system) (o .windows) row))
-
--- a list of calls, all of whose accepted rows hold values of 32 bits, leaves a sound record sound
-pub record-after-sound : (o : Observation) (rows : List Row) → isSound o ≡ true → AcceptedFit (o .system) (o .windows) rows → isSound (recordAfter o rows) ≡ true
-unfolding recordAfter
-record-after-sound o [] sound fits = sound
-record-after-sound o (row ∷ rows) sound fits =
-    let kept = answer-sound o row rows sound fits in
-    record-after-sound (addRowAnswer o row .observation) rows (kept .0) (kept .1)
+    (with-row-sound o row sound (accepts-row (o .system) (o .windows) row e .room) (both .0), both .1))
+    (λ e. (sound, rw e at fits))

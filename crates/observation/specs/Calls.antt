@@ -6,8 +6,8 @@ use lib.Dec.{eqb, leb}
 use lib.ListN.{getD, replicate}
 use Rattle.algebra.specs.Lists.{tabulate}
 use Rattle.rows.specs.Orders.{orderCount}
-use Rattle.rows.specs.Systems.{isSystem, refusedSystem}
-use Rattle.refusals.specs.Numbers.{unknownSystem, unsoundRecord, otherSystem, recordFull}
+use Rattle.rows.specs.Systems.{systemCheck, refusedSystem}
+use Rattle.refusals.specs.Numbers.{unsoundRecord, otherSystem, recordFull}
 use Rattle.refusals.specs.Answers.{firstFault, unlessRefused}
 use Rattle.rows.specs.declared.Row.{Row}
 use Rattle.observation.specs.declared.Observation.{Observation}
@@ -27,15 +27,22 @@ emptyRecord system =
       peak = replicate orderCount 0;
     }
 
--- 1; a refused fresh record is system 10 with zeros
+-- a refused fresh record: system 10, zeros
+abbrev pub refusedRecord : Observation
+refusedRecord = emptyRecord refusedSystem
+
+-- 1 system not 10 or 12
+abbrev pub freshChecks : ℕ → List (Bool × ℕ)
+freshChecks system = systemCheck system ∷ []
+
 unfoldable pub freshRefusal : ℕ → ℕ
-freshRefusal system = firstFault ((not (isSystem system), unknownSystem) ∷ [])
+freshRefusal system = firstFault (freshChecks system)
 
 unfoldable pub freshAnswer : ℕ → RecordAnswer
 freshAnswer system =
     record {
       refusal = freshRefusal system;
-      observation = emptyRecord (unlessRefused (freshRefusal system) system refusedSystem);
+      observation = unlessRefused (freshRefusal system) (emptyRecord system) refusedRecord;
     }
 
 -- the reported book of the order at a place of the record
@@ -66,15 +73,17 @@ withRow o row =
 -- what a book with this system and count turns away: 1 the row's system not 10 or 12; 8 it differs from the record's; 9 45,000 windows held
 unfoldable pub rowChecks : ℕ → ℕ → Row → List (Bool × ℕ)
 rowChecks system count row =
-    (not (isSystem (row .system)), unknownSystem) ∷
+    systemCheck (row .system) ∷
     (not (eqb (row .system) system), otherSystem) ∷
     (leb mostWindows count, recordFull) ∷
     []
 
 -- 7 record not sound comes before these
+abbrev pub addRowChecks : Observation → Row → List (Bool × ℕ)
+addRowChecks o row = (not (isSound o), unsoundRecord) ∷ rowChecks (o .system) (o .windows) row
+
 unfoldable pub addRowRefusal : Observation → Row → ℕ
-addRowRefusal o row =
-    firstFault ((not (isSound o), unsoundRecord) ∷ rowChecks (o .system) (o .windows) row)
+addRowRefusal o row = firstFault (addRowChecks o row)
 
 -- a refusal returns the record unchanged
 unfoldable pub addRowAnswer : Observation → Row → RecordAnswer

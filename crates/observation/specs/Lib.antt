@@ -5,5 +5,5 @@ pub mod OrderBook
 pub mod Average
 pub mod Soundness
 pub mod Calls
-pub mod CallList
+pub mod RecordAfter
 pub mod BookCalls

@@ -1,9 +1,9 @@
 -- Which records are sound (document 01, "The observation record").
-use mathlib.Core.Bool.{Bool, not, _&&_, _||_}
-use mathlib.Core.List.{List}
+use mathlib.Core.Bool.{Bool, not, _||_}
+use mathlib.Core.List.{List, [], _∷_}
 use Prim.Native.Nat.{ℕ, _*_}
 use lib.Dec.{eqb, leb, ltb}
-use Rattle.algebra.specs.Lists.{anyOf}
+use Rattle.algebra.specs.Lists.{anyOf, allTrue}
 use Rattle.rows.specs.Rows.{largestValue}
 use Rattle.rows.specs.Systems.{isSystem}
 use Rattle.observation.specs.declared.Observation.{Observation}
@@ -18,14 +18,18 @@ noneAbove limit values = not (anyOf (ltb limit) values)
 
 -- all of the record's 120 numbers are 0
 unfoldable pub allZero : Observation → Bool
-allZero o = noneAbove 0 (o .smoothed) && noneAbove 0 (o .sum) && noneAbove 0 (o .peak)
+allZero o = allTrue (noneAbove 0 (o .smoothed) ∷ noneAbove 0 (o .sum) ∷ noneAbove 0 (o .peak) ∷ [])
 
 -- its system is 10 or 12, n is at most 45,000, no sum is above n×(2^32−1), no peak or smoothed value above 2^32−1, and n = 0 means zeros
+abbrev pub soundTests : Observation → List Bool
+soundTests o =
+    isSystem (o .system) ∷
+    leb (o .windows) mostWindows ∷
+    noneAbove (o .windows * largestValue) (o .sum) ∷
+    noneAbove largestValue (o .peak) ∷
+    noneAbove largestValue (o .smoothed) ∷
+    (not (eqb (o .windows) 0) || allZero o) ∷
+    []
+
 unfoldable pub isSound : Observation → Bool
-isSound o =
-    isSystem (o .system) &&
-    leb (o .windows) mostWindows &&
-    noneAbove (o .windows * largestValue) (o .sum) &&
-    noneAbove largestValue (o .peak) &&
-    noneAbove largestValue (o .smoothed) &&
-    (not (eqb (o .windows) 0) || allZero o)
+isSound o = allTrue (soundTests o)

@@ -10,6 +10,7 @@ use refusals::OTHER_SYSTEM;
 use refusals::RECORD_FULL;
 use refusals::UNKNOWN_SYSTEM;
 use refusals::UNSOUND_RECORD;
+use refusals::fault_or;
 use rows::ORDER_COUNT;
 use rows::REFUSED_SYSTEM;
 use rows::Row;
@@ -35,16 +36,16 @@ fn empty_record(system: u32) -> Observation
 pub fn fresh_record(system: u32) -> RecordAnswer
     ensures { λ r. ⌜ r ≡ freshAnswer system ⌝ }
 {
-    if is_system(system) {
-        RecordAnswer {
-            refusal: NO_REFUSAL,
-            observation: empty_record(system),
-        }
-    } else {
-        RecordAnswer {
-            refusal: UNKNOWN_SYSTEM,
+    let refusal = fault_or(!is_system(system), UNKNOWN_SYSTEM, NO_REFUSAL);
+    if refusal != NO_REFUSAL {
+        return RecordAnswer {
+            refusal,
             observation: empty_record(REFUSED_SYSTEM),
-        }
+        };
+    }
+    RecordAnswer {
+        refusal,
+        observation: empty_record(system),
     }
 }
 
@@ -54,23 +55,17 @@ fn add_row_refusal(observation: Observation, row: Row) -> u32
     ensures { λ r. ⌜ r ≡ addRowRefusal observation row ⌝ }
 {
     let system = row.system;
-    let unsound = !is_sound(observation);
-    let unknown = !is_system(system);
     let other = system != observation.system;
     let full = MOST_WINDOWS <= observation.windows;
-    if unsound {
-        return UNSOUND_RECORD;
-    }
-    if unknown {
-        return UNKNOWN_SYSTEM;
-    }
-    if other {
-        return OTHER_SYSTEM;
-    }
-    if full {
-        return RECORD_FULL;
-    }
-    NO_REFUSAL
+    fault_or(
+        !is_sound(observation),
+        UNSOUND_RECORD,
+        fault_or(
+            !is_system(system),
+            UNKNOWN_SYSTEM,
+            fault_or(other, OTHER_SYSTEM, fault_or(full, RECORD_FULL, NO_REFUSAL)),
+        ),
+    )
 }
 
 // The record with a row added: the book of each order takes its step.
@@ -82,13 +77,12 @@ fn with_row(observation: Observation, row: Row) -> Observation
     let mut smoothed = observation.smoothed;
     let mut sum = observation.sum;
     let mut peak = observation.peak;
-    let values = row.values;
     let mut i = 0;
     while i < ORDER_COUNT {
         let old_smoothed = smoothed[i];
         let old_sum = sum[i];
         let old_peak = peak[i];
-        let new = values[i];
+        let new = row.values[i];
         let book = OrderBook {
             count: windows,
             smoothed: old_smoothed,
@@ -123,7 +117,7 @@ pub fn add_row(observation: Observation, row: Row) -> RecordAnswer
         };
     }
     RecordAnswer {
-        refusal: NO_REFUSAL,
+        refusal,
         observation: with_row(observation, row),
     }
 }

@@ -1,12 +1,10 @@
 // The observation record: smoothed values, their sums and their peaks over the windows of an
 // observation, for each of the 40 orders. It goes in by value and comes back by value.
 mod book;
-mod call_list;
 mod calls;
 mod soundness;
 
 pub use book::SMOOTHED_MARGIN;
-pub use call_list::add_rows;
 pub use calls::add_row;
 pub use calls::fresh_record;
 use rows::ORDER_COUNT;

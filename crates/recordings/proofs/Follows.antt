@@ -25,11 +25,11 @@ use Rattle.rows.specs.declared.Row.{Row}
 use Rattle.observation.specs.declared.Observation.{Observation}
 use Rattle.observation.specs.Soundness.{isSound, mostWindows}
 use Rattle.observation.specs.Calls.{emptyRecord, rowChecks, addRowRefusal, addRowAnswer, withRow}
-use Rattle.observation.specs.CallList.{recordAfter}
+use Rattle.observation.specs.RecordAfter.{recordAfter}
 use Rattle.rows.specs.Rows.{ValuesFit}
 use Rattle.observation.proofs.SoundRecord.{sound-parts, empty-record-sound, fresh-of-known, with-row-sound}
 use Rattle.refusals.proofs.Answers.{no-fault}
-use Rattle.observation.proofs.CallList.{record-after-tabulate}
+use Rattle.observation.proofs.RecordAfter.{record-after-tabulate}
 use Rattle.recordings.specs.declared.Reading.{Reading}
 use Rattle.recordings.specs.Lines.{textLineBytes, textLineCount, textLineAt, textLineNumber, numberAt}
 use Rattle.recordings.specs.Faults.{isNone, noSystem, textLineRefusal, firstOf, refusalBefore, endRefusal}

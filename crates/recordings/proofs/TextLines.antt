@@ -15,7 +15,7 @@ use Rattle.spectrum.specs.Line.{windowLength}
 use Rattle.spectrum.specs.Spectrum.{outOfRange}
 use Rattle.observation.specs.Soundness.{mostWindows}
 use Rattle.observation.specs.Calls.{freshAnswer}
-use Rattle.observation.specs.CallList.{recordAfter}
+use Rattle.observation.specs.RecordAfter.{recordAfter}
 use Rattle.recordings.specs.Lines.{textLineBytes, textLineAt, textLineNumber, numberOr0, numberAt}
 use Rattle.recordings.specs.Faults.{isNone, numberRefusal, textLineRefusal, refusalBefore}
 use Rattle.recordings.specs.Output.{systemIn, windowIn, rowsIn, recordIn}

@@ -12,7 +12,7 @@ use Rattle.rows.specs.declared.Row.{Row}
 use Rattle.observation.specs.declared.Observation.{Observation}
 use Rattle.observation.specs.Soundness.{mostWindows}
 use Rattle.observation.specs.Calls.{addRowRefusal, addRowAnswer, withRow}
-use Rattle.observation.proofs.SoundRecord.{not-refused, accepted-not-full}
+use Rattle.observation.proofs.SoundRecord.{accepted-call}
 use Rattle.recordings.specs.declared.Reading.{Reading}
 use Rattle.recordings.specs.Output.{rowOf}
 use Rattle.recordings.specs.Reading.{windowBytes, textLinesRefusal, blockLines, samplesOf, windowTaken, blockOf}
@@ -38,7 +38,7 @@ unfolding windowTaken addRowAnswer
 window-added reading window e =
     let o = reading .observation in
     let row = rowOf HarmonicGroup (o .system) window in (
-      accepted-not-full (o .system) (o .windows) row (not-refused o row e .1),
+      accepted-call o row e .row-accepted .room,
       ap (λ (r : Observation). r .windows) (answer-with-row o row e) ∙ windows-of-with o row,
     )
 

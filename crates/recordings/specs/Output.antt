@@ -14,7 +14,7 @@ use Rattle.groups.specs.Group.{groupValues}
 use Rattle.rows.specs.declared.Row.{Row}
 use Rattle.observation.specs.declared.Observation.{Observation}
 use Rattle.observation.specs.Calls.{freshAnswer}
-use Rattle.observation.specs.CallList.{recordAfter}
+use Rattle.observation.specs.RecordAfter.{recordAfter}
 use Rattle.recordings.specs.Lines.{textLineCount, numberAt}
 use Rattle.recordings.specs.Faults.{inputRefusal}
 

@@ -16,8 +16,7 @@ use Rattle.spectrum.specs.Spectrum.{outOfRange}
 use Rattle.groups.specs.declared.Kind.the-variants.{HarmonicGroup, HarmonicSubgroup}
 use Rattle.rows.specs.Orders.{orderCount}
 use Rattle.observation.specs.Soundness.{isSound}
-use Rattle.observation.specs.Calls.{emptyRecord, addRowAnswer}
-use Rattle.rows.specs.Systems.{refusedSystem}
+use Rattle.observation.specs.Calls.{emptyRecord, refusedRecord, addRowAnswer}
 use Rattle.recordings.specs.declared.Reading.{Reading}
 use Rattle.recordings.specs.Lines.{textLineBytes, textLineCount, textLineAt, textLineNumber, numberOr0, numberAt}
 use Rattle.recordings.specs.Faults.{isNone, textLineRefusal, firstOf}
@@ -32,7 +31,7 @@ unfoldable pub beginOf : List ℕ → Reading
 beginOf line =
     record {
       refusal = textLineRefusal line 0;
-      observation = emptyRecord (unlessRefused (textLineRefusal line 0) (systemIn line) refusedSystem);
+      observation = unlessRefused (textLineRefusal line 0) (emptyRecord (systemIn line)) refusedRecord;
       group = replicate orderCount 0;
       subgroup = replicate orderCount 0;
     }

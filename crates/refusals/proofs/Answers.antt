@@ -4,7 +4,7 @@ use mathlib.Core.Bool.{Bool, true, false, cond, _&&_}
 use mathlib.Core.List.{List, [], _∷_}
 use Prim.Native.Nat.{ℕ, _<_}
 use native.Mathlib.Omega.{arith}
-use borrow.Author.Tests.{eq-eqb, ne-eqb, ltb-true}
+use borrow.Author.Tests.{eq-eqb, ne-eqb, eqb-true, ltb-true}
 use lib.Dec.{eqb, ltb}
 use Rattle.refusals.specs.Numbers.{noRefusal}
 use Rattle.refusals.specs.Answers.{firstFault, unlessRefused, answer}
@@ -46,6 +46,17 @@ module _ {ℓ} {A : Type ℓ} (refusal : ℕ) (accepted unchanged : A) where
 
   pub unlessRefused-refused : (refusal ≡ noRefusal → ⊥) → unlessRefused refusal accepted unchanged ≡ unchanged
   unlessRefused-refused e = rw (ne-eqb refusal noRefusal e)
+
+-- what stands on success need be the same only there
+pub unlessRefused-same {ℓ} :
+    {A : Type ℓ} (refusal : ℕ) (a b unchanged : A) →
+    (refusal ≡ noRefusal → a ≡ b) →
+    unlessRefused refusal a unchanged ≡ unlessRefused refusal b unchanged
+unlessRefused-same refusal a b unchanged same = by-test (eqb refusal noRefusal) refl
+  where
+    by-test : (accepted : Bool) → eqb refusal noRefusal ≡ accepted → cond accepted a unchanged ≡ cond accepted b unchanged
+    by-test true e = same (eqb-true refusal noRefusal e)
+    by-test false e = refl
 
 -- two checks with the numbers 1 and 2
 abbrev checks : Bool → Bool → List (Bool × ℕ)

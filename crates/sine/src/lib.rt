@@ -604,11 +604,3 @@ pub fn fill_wave(wave: &mut [i32; TURN])
     let quarter = quarter_wave();
     fill_from(&quarter, wave)
 }
-
-// The wave at any index. It copies the quarter wave, so it is for single values and not for loops.
-pub fn sine(index: usize) -> i32
-    ensures { λ r. ⌜ r ≡ tableSine index ⌝ }
-{
-    let quarter = quarter_wave();
-    wave_at(&quarter, index)
-}

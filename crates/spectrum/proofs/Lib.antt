@@ -1,5 +1,4 @@
 -- The theorems of the spectrum.
-pub mod Signed
 pub mod Bounds
 pub mod Lines
 pub mod Distance

@@ -17,6 +17,10 @@ windowLength = 2048
 abbrev pub lineCount : ℕ
 lineCount = 512
 
+-- line numbers are below it: half of the samples in a window
+abbrev pub lineLimit : ℕ
+lineLimit = 1024
+
 -- what the sums are divided by
 abbrev pub sumScale : ℕ
 sumScale = 2 ^ 29
@@ -42,6 +46,10 @@ lineOf window k =
 abbrev pub largestLine : ℕ
 largestLine = 2 ^ 59
 
+-- so many lines, the first of which has the given number
+unfoldable pub linesFrom : ℕ → ℕ → List ℤ → List ℕ
+linesFrom first count window = tabulate count (λ i. lineOf window (first + i))
+
 -- the 512 lines
 unfoldable pub linesOf : List ℤ → List ℕ
-linesOf window = tabulate lineCount (lineOf window)
+linesOf window = linesFrom 0 lineCount window

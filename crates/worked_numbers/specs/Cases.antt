@@ -17,7 +17,7 @@ use Rattle.rows.specs.Orders.{orderCount, isOrder}
 use Rattle.rows.specs.declared.Row.{Row}
 use Rattle.observation.specs.declared.Observation.{Observation}
 use Rattle.observation.specs.Calls.{freshAnswer}
-use Rattle.observation.specs.CallList.{recordAfter}
+use Rattle.observation.specs.RecordAfter.{recordAfter}
 use Rattle.verdict.specs.declared.Verdict.{Verdict}
 use Rattle.verdict.specs.declared.Verdict.the-variants.{Within, Close, Over}
 use Rattle.verdict.specs.declared.Answered.the-variants.{Given}

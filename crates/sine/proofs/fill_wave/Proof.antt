@@ -7,15 +7,9 @@ use Rattle.sine.specs.Wave.{tableSine, waveList}
 use Rattle.sine.proofs.fill_wave.Statement.{statement}
 use Rattle.sine.proofs.fill_wave.Tie as tie
 
-quarter-wave-requires : tie.Need-quarter-wave-requires
-quarter-wave-requires c κs = search needs
-
-fill-from-requires : tie.Need-fill-from-requires
-fill-from-requires c κs = search needs
-
 returns : tie.Need-returns
 unfolding waveList
 returns c = c .fill-from .ensures ∙ ap (λ (n : ℕ). tabulate n tableSine) (search needs)
 
 pub fill-wave-spec : {M : Type 1} → statement M
-fill-wave-spec = tie.close (tie.spec quarter-wave-requires fill-from-requires returns)
+fill-wave-spec = tie.close (tie.spec (λ c κs. search needs) (λ c κs. search needs) returns)

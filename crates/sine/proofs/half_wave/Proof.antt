@@ -10,21 +10,6 @@ use Rattle.sine.proofs.Wave.{quarterList-at}
 use Rattle.sine.proofs.half_wave.Statement.{statement}
 use Rattle.sine.proofs.half_wave.Tie as tie
 
-mul-result : tie.Need-mul-result
-mul-result c = search needs
-
-element-copy-out-result : tie.Need-element-copy-out-result
-element-copy-out-result c = search needs
-
-sub-result : tie.Need-sub-result
-sub-result c = search needs
-
-mul-result-2 : tie.Need-mul-result-2
-mul-result-2 c = search needs
-
-element-copy-out-result-2 : tie.Need-element-copy-out-result-2
-element-copy-out-result-2 c = search needs
-
 returns : tie.Need-returns
 returns c =
     let at = c .before .before .args .at in
@@ -39,10 +24,10 @@ pub half-wave-spec : {M : Type 1} → statement M
 half-wave-spec =
     tie.close
     (tie.spec
-    mul-result
-    element-copy-out-result
-    sub-result
-    mul-result-2
-    element-copy-out-result-2
+    (λ c. search needs)
+    (λ c. search needs)
+    (λ c. search needs)
+    (λ c. search needs)
+    (λ c. search needs)
     returns
     returns-2)

@@ -13,18 +13,9 @@ use Rattle.sine.proofs.Wave.{tableHalf-le}
 use Rattle.sine.proofs.wave_at.Statement.{statement}
 use Rattle.sine.proofs.wave_at.Tie as tie
 
-turn-index-requires : tie.Need-turn-index-requires
-turn-index-requires c κs = search needs
-
-half-wave-requires : tie.Need-half-wave-requires
-half-wave-requires c κs = search needs
-
 cast-result : tie.Need-cast-result
 cast-result c =
     record { sfits = omega (arith, tableHalf-le (c .before .before .turn-index .result) (omega arith), c .half-wave .ensures) }
-
-half-wave-requires-2 : tie.Need-half-wave-requires-2
-half-wave-requires-2 c κs = search needs
 
 negated-requires : tie.Need-negated-requires
 negated-requires c κs =
@@ -49,10 +40,10 @@ pub wave-at-spec : {M : Type 1} → statement M
 wave-at-spec =
     tie.close
     (tie.spec
-    turn-index-requires
-    half-wave-requires
+    (λ c κs. search needs)
+    (λ c κs. search needs)
     cast-result
-    half-wave-requires-2
+    (λ c κs. search needs)
     negated-requires
     returns
     returns-2)

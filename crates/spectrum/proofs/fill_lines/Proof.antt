@@ -1,42 +1,32 @@
--- `spectrum::fill_lines` meets its contract. The loop's invariant: the buffer keeps its length, and is the window's first k lines and then what was there.
--- The measure is what is left of the lines.
-use mathlib.Core.List.{_++_}
-use mathlib.Core.Path.{_≡_, _∙_}
-use Prim.Native.Nat.{_-_, _≤_}
+-- `spectrum::fill_lines` meets its contract. The loop's invariant: the buffer keeps its length, and holds the first i of the lines and then what was there.
+-- The measure is what is left of the buffer.
+use mathlib.Core.Path.{_≡_}
+use Prim.Native.Nat.{ℕ, _+_, _-_, _≤_}
 use native.Mathlib.Omega.{arith}
-use lib.ListN.{length, drop}
+use lib.IntN.{ℤ}
+use mathlib.Core.List.{List}
+use lib.ListN.{length}
 use borrow.Author.Needs.{needs}
 use Rattle.algebra.specs.Lists.{tabulate}
-use Rattle.algebra.proofs.Lists.{fill-tabulate, filled-tabulate}
-use Rattle.spectrum.specs.Line.{lineCount, lineOf, linesOf}
+use Rattle.algebra.proofs.Filling.{Filled, filled-more, filled-whole}
+use Rattle.spectrum.specs.Line.{lineOf, linesFrom}
 use Rattle.spectrum.proofs.fill_lines.Statement.{statement}
 use Rattle.spectrum.proofs.fill_lines.Tie as tie
 
+-- the line at place i of the buffer
+abbrev lineAt : List ℤ → ℕ → ℕ → ℕ
+lineAt window first i = lineOf window (first + i)
+
 abbrev Inv-loop : tie.InvT-loop
-Inv-loop window wave lines₀ k₀ lines k =
-    (k ≤ lineCount) × (length lines ≡ length lines₀) × (lines ≡ tabulate k (lineOf window) ++ drop k lines₀)
+Inv-loop window wave first lines₀ i₀ lines i =
+    (i ≤ length lines₀) × (length lines ≡ length lines₀) × Filled i (lineAt window first) lines₀ lines
 
 abbrev μ-loop : tie.MeasureT-loop
-μ-loop window wave lines₀ k₀ lines k = lineCount - k
+μ-loop window wave first lines₀ i₀ lines i = length lines₀ - i
 
 loop-holds : tie.Need-loop-holds Inv-loop μ-loop
 unfolding tabulate
 loop-holds c = search needs
-
-line-requires : tie.Need-line-requires Inv-loop μ-loop
-line-requires c κs = search needs
-
-mul-lines : tie.Need-mul-lines Inv-loop μ-loop
-mul-lines c = omega arith
-
-slice-write-lines : tie.Need-slice-write-lines Inv-loop μ-loop
-slice-write-lines c = omega arith
-
-add-k : tie.Need-add-k Inv-loop μ-loop
-add-k c = omega arith
-
-loop-less : tie.Need-loop-less Inv-loop μ-loop
-loop-less c = omega arith
 
 loop-again : tie.Need-loop-again Inv-loop μ-loop
 loop-again c =
@@ -44,21 +34,17 @@ loop-again c =
     let a = at .before .before .args in (
       omega arith,
       search needs,
-      rw (c .line .ensures, at .loop .inv .2)
-          (fill-tabulate (at .loop .k) (lineOf (a .window .now)) (a .lines .now) (omega arith)),
+      filled-more (at .loop .i) (lineAt (a .window .now) (a .first)) (a .lines .now) (at .loop .lines) (at .loop .inv .2) (c .line .result) (omega arith) (c .line .ensures),
     )
 
-same-length : tie.Need-same-length Inv-loop μ-loop
-same-length c = search needs
-
 returns : tie.Need-returns Inv-loop μ-loop
-unfolding linesOf
+unfolding linesFrom
 returns c =
     let at = c .before in
     let a = at .before .before .args in
-    let end : at .loop .k ≡ lineCount = omega arith in
-    rw end at (at .loop .inv .2)
-    ∙ filled-tabulate lineCount (lineOf (a .window .now)) (a .lines .now) (at .before .before .pre .1)
+    let end : length (a .lines .now) ≡ at .loop .i = omega arith in
+    rw end
+    (filled-whole (at .loop .i) (lineAt (a .window .now) (a .first)) (a .lines .now) (at .loop .lines) (at .loop .inv .2) end)
 
 pub fill-lines-spec : {M : Type 1} → statement M
 fill-lines-spec =
@@ -67,11 +53,12 @@ fill-lines-spec =
     Inv-loop
     μ-loop
     loop-holds
-    line-requires
-    mul-lines
-    slice-write-lines
-    add-k
-    loop-less
+    (λ c. search needs)
+    (λ c κs. search needs)
+    (λ c. search needs)
+    (λ c. search needs)
+    (λ c. search needs)
+    (λ c. search needs)
     loop-again
-    same-length
+    (λ c. search needs)
     returns)

@@ -2,8 +2,8 @@
 use mathlib.Core.Path.{refl}
 use borrow.Author.Needs.{needs}
 use borrow.Author.Tests.{eq-eqb, ne-eqb}
-use Rattle.observation.specs.Calls.{emptyRecord, freshRefusal, freshAnswer}
-use Rattle.rows.specs.Systems.{refusedSystem}
+use Rattle.observation.specs.declared.Observation.{Observation}
+use Rattle.observation.specs.Calls.{emptyRecord, refusedRecord, freshRefusal, freshAnswer}
 use Rattle.kifsang.specs.Words.{recordWords}
 use Rattle.kifsang.specs.RecordCalls.{freshCallRefusal, freshCallExit}
 use Rattle.kifsang.proofs.Handed.{handed-record}
@@ -31,7 +31,7 @@ returns-2 c =
     let at-test = at-call .before in
     let a = at-test .before .before .args in
     rw (eq-eqb _ recordWords (at-test .if1 .left))
-    (handed-record emptyRecord (freshRefusal (a .system)) (a .system) refusedSystem (a .words .now) _ _ _ (at-call .fresh-record .ensures) (at-hand .hand-over-record .ensures))
+    (handed-record (λ (x : Observation). x) (freshRefusal (a .system)) (emptyRecord (a .system)) refusedRecord (a .words .now) _ _ _ (at-call .fresh-record .ensures) (at-hand .hand-over-record .ensures))
 
 pub kifsang-fresh-record-spec : {M : Type 1} → statement M
 kifsang-fresh-record-spec =

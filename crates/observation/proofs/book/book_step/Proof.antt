@@ -9,12 +9,6 @@ use Rattle.observation.proofs.Smoothed.{smoothed-next-le}
 use Rattle.observation.proofs.book.book_step.Statement.{statement}
 use Rattle.observation.proofs.book.book_step.Tie as tie
 
-add-count : tie.Need-add-count
-add-count c = search needs
-
-next-smoothed-requires : tie.Need-next-smoothed-requires
-next-smoothed-requires c κs = search needs
-
 add-sum : tie.Need-add-sum
 add-sum c =
     let a = c .before .before .before .args in
@@ -23,13 +17,10 @@ add-sum c =
     rw (next .ensures) (smoothed-next-le largestValue (reportedBook (a .book)) (a .new) (omega arith) (search needs)) in
     omega arith
 
-greater-requires : tie.Need-greater-requires
-greater-requires c κs = search needs
-
 returns : tie.Need-returns
 unfolding bookStep
 returns c = rw (c .greater .ensures, c .before .before .next-smoothed .ensures)
 
 pub book-step-spec : {M : Type 1} → statement M
 book-step-spec =
-    tie.close (tie.spec add-count next-smoothed-requires add-sum greater-requires returns)
+    tie.close (tie.spec (λ c. search needs) (λ c κs. search needs) add-sum (λ c κs. search needs) returns)

@@ -5,9 +5,6 @@ use Rattle.observation.specs.Book.{smoothedNext}
 use Rattle.observation.proofs.book.next_smoothed.Statement.{statement}
 use Rattle.observation.proofs.book.next_smoothed.Tie as tie
 
-smoothed-value-requires : tie.Need-smoothed-value-requires
-smoothed-value-requires c κs = search needs
-
 returns : tie.Need-returns
 unfolding smoothedNext
 returns c = simp (eq-eqb _ _ (c .if1 .taken))
@@ -17,4 +14,4 @@ unfolding smoothedNext
 returns-2 c = simp (ne-eqb _ _ (c .before .if1 .left)) (c .smoothed-value .ensures)
 
 pub next-smoothed-spec : {M : Type 1} → statement M
-next-smoothed-spec = tie.close (tie.spec smoothed-value-requires returns returns-2)
+next-smoothed-spec = tie.close (tie.spec (λ c κs. search needs) returns returns-2)

@@ -5,19 +5,13 @@ use borrow.Author.Needs.{needs}
 use Rattle.observation.proofs.calls.add_row.Statement.{statement}
 use Rattle.observation.proofs.calls.add_row.Tie as tie
 
-add-row-refusal-requires : tie.Need-add-row-refusal-requires
-add-row-refusal-requires c κs = search needs
-
 returns : tie.Need-returns
 unfolding addRowAnswer
 returns c = rw (← c .before .add-row-refusal .ensures, ne-eqb _ _ (c .if1 .taken))
-
-with-row-requires : tie.Need-with-row-requires
-with-row-requires c κs = search needs
 
 returns-2 : tie.Need-returns-2
 unfolding addRowAnswer
 returns-2 c = rw (← c .before .before .add-row-refusal .ensures, c .before .if1 .left, c .with-row .ensures)
 
 pub add-row-spec : {M : Type 1} → statement M
-add-row-spec = tie.close (tie.spec add-row-refusal-requires returns with-row-requires returns-2)
+add-row-spec = tie.close (tie.spec (λ c κs. search needs) returns (λ c κs. search needs) returns-2)

@@ -1,36 +1,30 @@
--- `observation::calls::fresh_record` meets its contract, by cases on the system.
+-- `observation::calls::fresh_record` meets its contract, by what the refusal and the two records are.
+use mathlib.Core.Path.{_≡_}
 use borrow.Author.Needs.{needs}
-use mathlib.Core.Path.{_≡_, sym, _∙_}
-use mathlib.Core.Bool.{true, false}
-use Rattle.rows.specs.Systems.{isSystem}
+use borrow.Author.Tests.{ne-eqb}
 use Rattle.observation.specs.Calls.{freshRefusal, freshAnswer}
 use Rattle.observation.proofs.calls.fresh_record.Statement.{statement}
 use Rattle.observation.proofs.calls.fresh_record.Tie as tie
 
-is-system-requires : tie.Need-is-system-requires
-is-system-requires c κs = search needs
-
-empty-record-requires : tie.Need-empty-record-requires
-empty-record-requires c κs = search needs
-
-empty-record-requires-2 : tie.Need-empty-record-requires-2
-empty-record-requires-2 c κs = search needs
+refusal-is : (c : tie.After-fault-or) → c .fault-or .result ≡ freshRefusal (c .before .before .args .system)
+unfolding freshRefusal
+refusal-is c = cc
 
 returns : tie.Need-returns
-unfolding freshAnswer freshRefusal
-returns c =
-    let known : isSystem (c .before .before .before .args .system) ≡ true =
-    sym (c .before .before .is-system .ensures) ∙ c .before .if1 .taken in
-    rw (known, c .empty-record .ensures)
+unfolding freshAnswer
+returns c = rw (← refusal-is (c .before .before), ne-eqb _ _ (c .before .if1 .taken), c .empty-record .ensures)
 
 returns-2 : tie.Need-returns-2
-unfolding freshAnswer freshRefusal
-returns-2 c =
-    let unknown : isSystem (c .before .before .before .args .system) ≡ false =
-    sym (c .before .before .is-system .ensures) ∙ c .before .if1 .left in
-    rw (unknown, c .empty-record2 .ensures)
+unfolding freshAnswer
+returns-2 c = rw (← refusal-is (c .before .before), c .before .if1 .left, c .empty-record2 .ensures)
 
 pub fresh-record-spec : {M : Type 1} → statement M
 fresh-record-spec =
     tie.close
-    (tie.spec is-system-requires empty-record-requires empty-record-requires-2 returns returns-2)
+    (tie.spec
+    (λ c κs. search needs)
+    (λ c κs. search needs)
+    (λ c κs. search needs)
+    returns
+    (λ c κs. search needs)
+    returns-2)

@@ -15,7 +15,7 @@ use Rattle.algebra.specs.Lists.{tabulate}
 use Rattle.algebra.proofs.Lists.{fill-tabulate}
 use Rattle.refusals.specs.Numbers.{noRefusal}
 use Rattle.columns.specs.declared.NumberAnswer.{NumberAnswer}
-use Rattle.spectrum.proofs.Signed.{sfits-natAbs}
+use Rattle.algebra.proofs.Signed.{sfits-natAbs}
 use Rattle.recordings.specs.Lines.{textLineAt, numberAt}
 use Rattle.recordings.specs.Faults.{firstOf}
 use Rattle.recordings.specs.Reading.{sampleRefusal, textLinesRefusal}

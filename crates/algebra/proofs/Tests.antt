@@ -1,0 +1,45 @@
+-- Tests as the code computes them: by their parts, and one that follows from another.
+use mathlib.Core.Path.{_≡_, refl, sym, _∙_}
+use mathlib.Core.Logic.{_⊎_, inl, inr}
+use mathlib.Core.Bool.{Bool, true, false, true≢false, _&&_}
+use mathlib.Core.List.{List, [], _∷_}
+use Prim.Native.Nat.{ℕ, zero, suc, _<_}
+use native.Mathlib.Decide.{decLt}
+use native.Mathlib.Omega.{arith}
+use borrow.Author.Tests.{lt-ltb, le-ltb}
+use lib.Dec.{ltb}
+use lib.ListN.{getD}
+use Rattle.algebra.specs.Lists.{allTrue}
+
+pub and-left : (a b : Bool) → (a && b) ≡ true → a ≡ true
+and-left true b e = refl
+and-left false b e = e
+
+pub and-right : (a b : Bool) → (a && b) ≡ true → b ≡ true
+and-right true b e = e
+and-right false b e = absurd (true≢false (sym e))
+
+pub true-or-false : (b : Bool) → (b ≡ true) ⊎ (b ≡ false)
+true-or-false true = inl refl
+true-or-false false = inr refl
+
+-- the test at a place of a list, computed where the list is written out
+pub allTrue-at : (tests : List Bool) → allTrue tests ≡ true → (i : ℕ) → getD tests i true ≡ true
+allTrue-at [] e i = refl
+allTrue-at (test ∷ tests) e zero = and-left test (allTrue tests) e
+allTrue-at (test ∷ tests) e (suc i) = allTrue-at tests (and-right test (allTrue tests) e) i
+
+-- one test of three that fails is found, and each of three that pass
+tests-worked : (allTrue [] ≡ true) × (allTrue (true ∷ true ∷ true ∷ []) ≡ true) × (allTrue (false ∷ true ∷ true ∷ []) ≡ false)
+    × (allTrue (true ∷ false ∷ true ∷ []) ≡ false) × (allTrue (true ∷ true ∷ false ∷ []) ≡ false)
+tests-worked = (refl, refl, refl, refl, refl)
+
+-- two tests that follow from each other are the same
+pub ltb-same : (a b c d : ℕ) → (a < b → c < d) → (c < d → a < b) → ltb a b ≡ ltb c d
+ltb-same a b c d forth back = by-test (decLt a b)
+  where
+    by-test : Dec (a < b) → ltb a b ≡ ltb c d
+    by-test (yes h) = lt-ltb a b h ∙ sym (lt-ltb c d (forth h))
+    by-test (no f) =
+        let not-below : c < d → ⊥ = λ l. f (back l) in
+        le-ltb a b (omega arith) ∙ sym (le-ltb c d (omega arith))
