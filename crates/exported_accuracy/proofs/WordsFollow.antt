@@ -127,13 +127,6 @@ row-follows (some list) words row follows =
     either true = refl
     either false = refl
 
--- other than 122 words stay as they were
-left-alone : (words : List ℕ) (asked : Asked) → (length words ≡ recordWords → ⊥) → leftBy words asked ≡ words
-unfolding leftBy freshCallExit freshCallRefusal addRowCallExit addRowCallRefusal
-left-alone words (freshRecord system) other = rw (ne-eqb (length words) recordWords other)
-left-alone words (addRow system values) other = rw (ne-eqb (length words) recordWords other)
-left-alone words (askVerdict order unitsPerAmpere) other = refl
-
 module _ (begun : Option CallList) (words : List ℕ) (follows : FollowsBegun begun words) where
   whole : length words ≡ recordWords
   whole = follows-length begun words follows
@@ -175,6 +168,13 @@ module _ (begun : Option CallList) (words : List ℕ) (follows : FollowsBegun be
   asked-follows (freshRecord system) = fresh-follows system
   asked-follows (addRow system values) = add-row-follows system values
   asked-follows (askVerdict order unitsPerAmpere) = follows
+
+  -- other than 122 words stay as they were
+  left-alone : (part : List ℕ) (asked : Asked) → (length part ≡ recordWords → ⊥) → leftBy part asked ≡ part
+  unfolding leftBy freshCallExit freshCallRefusal addRowCallExit addRowCallRefusal
+  left-alone part (freshRecord system) other = rw (ne-eqb (length part) recordWords other)
+  left-alone part (addRow system values) other = rw (ne-eqb (length part) recordWords other)
+  left-alone part (askVerdict order unitsPerAmpere) other = refl
 
   call-follows : (call : Call) → FollowsBegun (listAtExit begun call) (wordsAtExit words call)
   unfolding wordsAtExit listAtExit
