@@ -3,19 +3,14 @@ use mathlib.Core.Path.{_≡_, refl}
 use mathlib.Core.Bool.{Bool, true, false, cond}
 use mathlib.Core.List.{List, [], _∷_, map, map-id}
 use Prim.Native.Nat.{ℕ, _+_}
-use borrow.Author.Tests.{eqb-true, not-false}
-use Rattle.refusals.specs.Numbers.{unknownSystem}
-use Rattle.refusals.proofs.Answers.{no-faults}
 use Rattle.rows.specs.declared.Row.{Row}
 use Rattle.rows.specs.Systems.{isSystem}
-use Rattle.observation.specs.Calls.{rowChecks}
-use Rattle.observation.specs.BookCalls.{accepts, EachAccepted}
+use Rattle.observation.specs.BookCalls.{EachAccepted}
+use Rattle.observation.proofs.SoundRecord.{accepts-row}
 use Rattle.accuracy.specs.CallList.{CallList, accepted}
 
 pub accepted-system : (list : CallList) (count : ℕ) (row : Row) → accepted list count row ≡ true → isSystem (row .system) ≡ true
-unfolding accepts rowChecks
-accepted-system list count row e =
-    not-false _ (no-faults (rowChecks _ count row) refl (eqb-true _ _ e) unknownSystem)
+accepted-system list count row e = accepts-row _ count row e .system-known
 
 -- calls made one by one of others
 module _

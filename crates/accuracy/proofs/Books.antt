@@ -23,7 +23,7 @@ abbrev pub MarginKept : ℕ → ℕ → Type 0
 MarginKept margin kept =
     2 * (newWeight * margin + oldWeight * kept) + (newWeight + oldWeight) ≤ 2 * ((newWeight + oldWeight) * kept)
 
--- the margins of document 01, of which neither can be 1 more, or 1 less
+-- document 01's margins; 8 units would not be kept within 12, nor 7 within 11
 pub margins-kept : MarginKept groupMargin smoothedMargin × (¬ MarginKept 8 12) × (¬ MarginKept 7 11)
 margins-kept = (lit≤ tt, omega arith, omega arith)
 
@@ -32,6 +32,10 @@ pub record BookNear (side : Side) (kept : ℕ) (book : Book reported) (exactBook
   pub smoothed-near : Near side (whole (book .smoothed)) (exactBook .smoothed) kept
   pub sum-near : Near side (whole (book .sum)) (exactBook .sum) (book .count * kept)
   pub peak-near : Near side (whole (book .peak)) (exactBook .peak) kept
+
+-- what the reported book reads of a call's row is near the fraction that the exact book is fed
+abbrev pub NearFed : Side → ℕ → (Row → ℕ) → Fed exact → Type 0
+NearFed side margin read call = Near side (whole (read (call .row))) (call .value) margin
 
 zeros-near : (side : Side) (kept : ℕ) → Near side (whole 0) (whole 0) kept
 unfolding whole _+ᶠ_
@@ -80,13 +84,9 @@ module _ (side : Side) (margin kept : ℕ) (keeps : MarginKept margin kept) wher
 
   -- a list of calls of an exact book, and the reported book over the same rows
   module _ (taken : ℕ → Row → Bool) (read : Row → ℕ) where
-    -- the row's own value is near the fraction that the exact book is fed
-    abbrev pub NearFed : Fed exact → Type 0
-    NearFed call = Near side (whole (read (call .row))) (call .value) margin
-
     -- at each call that a book with this count accepts
     abbrev NearCalls : ℕ → List (Fed exact) → Type 0
-    NearCalls = EachAccepted (λ call. call .row) NearFed taken
+    NearCalls = EachAccepted (λ call. call .row) (NearFed side margin read) taken
 
     -- the reported book's call, and the exact one's
     abbrev ownCall : Book reported → Fed exact → Book reported
@@ -110,7 +110,7 @@ module _ (side : Side) (margin kept : ℕ) (keeps : MarginKept margin kept) wher
 
         go :
             (accepts : Bool) →
-            cond accepts (NearFed call × NearCalls (book .count + 1) calls) (NearCalls (book .count) calls) →
+            cond accepts (NearFed side margin read call × NearCalls (book .count + 1) calls) (NearCalls (book .count) calls) →
             BookNear side kept (cond accepts next book) (cond accepts (bookStep exact exactBook (call .value)) exactBook) ×
             NearCalls (cond accepts next book .count) calls
         go true near = (step-near book exactBook _ _ (near .0) before, near .1)
@@ -129,14 +129,14 @@ module _ (side : Side) (margin kept : ℕ) (keeps : MarginKept margin kept) wher
         let next = call-near call calls book exactBook before near in
         calls-near calls _ _ (next .0) (next .1)
 
-  -- The books of a list: an exact one lies near the reported one, if all that it may be fed at a row that it accepts is near what the reported one reads there.
+  -- the books of a list: an exact one is near the reported one where all that it may be fed at a row that it accepts is near what the reported one reads
   pub exact-book-near :
       (list : CallList) (read : Row → ℕ) (feeds : Fed exact → Type 0) →
-      ((count : ℕ) (call : Fed exact) → accepted list count (call .row) ≡ true → feeds call → NearFed (accepted list) read call) →
+      ((count : ℕ) (call : Fed exact) → accepted list count (call .row) ≡ true → feeds call → NearFed side margin read call) →
       (book : ExactBook list feeds) →
       BookNear side kept (reportedFrom list read) (state list book)
   unfolding reportedFrom state emptyBook
   exact-book-near list read feeds near book =
       rw (book .same-rows) at
       (calls-near (accepted list) read (book .calls) (emptyBook reported) (emptyBook exact) empty-near
-      (each-accepted-carry (λ call. call .row) feeds (NearFed (accepted list) read) (accepted list) near 0 (book .calls) (book .fed)))
+      (each-accepted-carry (λ call. call .row) feeds (NearFed side margin read) (accepted list) near 0 (book .calls) (book .fed)))

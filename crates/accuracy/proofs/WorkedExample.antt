@@ -2,7 +2,7 @@
 -- Of the pulse's harmonic groups, document 01's 8944, the third order is then judged over, close and within at K = 3883, 3884 .. 3893 and 3894.
 use mathlib.Core.Path.{_≡_, refl, sym, ap, subst, _∙_}
 use mathlib.Core.List.{List, [], _∷_}
-use Prim.Native.Nat.{ℕ, _-_}
+use Prim.Native.Nat.{ℕ, _+_, _-_}
 use native.Mathlib.Omega.{arith}
 use lib.IntN.{ℤ}
 use lib.ListN.{replicate}

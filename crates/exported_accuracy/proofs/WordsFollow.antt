@@ -100,23 +100,6 @@ follows-length (some list) words follows = rw (follows .held) (words-length _ (a
 
 -- ---- one call
 
-fresh-follows :
-    (system : ℕ) (begun : Option CallList) (words : List ℕ) →
-    FollowsBegun begun words →
-    FollowsBegun (listAsked begun (freshRecord system)) (freshCallExit system words)
-unfolding listAsked freshCallExit freshCallRefusal freshRefusal after recordAfter
-fresh-follows system begun words follows =
-    rw (eq-eqb (length words) recordWords (follows-length begun words follows)) (go (isSystem system) refl)
-  where
-    go :
-        (known : Bool) →
-        isSystem system ≡ known →
-        FollowsBegun
-        (cond known (some (record { system = system; rows = [] })) begun)
-        (unlessRefused (firstFault ((not known, unknownSystem) ∷ [])) (wordsOf (emptyRecord system)) words)
-    go true e = record { known = e; held = ap wordsOf (sym (fresh-of-known system e)) }
-    go false e = follows
-
 -- the words with a row of 40 values added, or what they were where it is refused
 abbrev rowAdded : List ℕ → Row → List ℕ
 rowAdded words row = unlessRefused (addRowRefusal (recordOf words) row) (wordsOf (withRow (recordOf words) row)) words
@@ -144,72 +127,77 @@ row-follows (some list) words row follows =
     either true = refl
     either false = refl
 
-add-row-follows :
-    (system : ℕ) (values : List ℕ) (begun : Option CallList) (words : List ℕ) →
-    FollowsBegun begun words →
-    FollowsBegun (listAsked begun (addRow system values)) (addRowCallExit words system values)
-unfolding listAsked addRowCallExit addRowCallRefusal
-add-row-follows system values begun words follows =
-    rw (eq-eqb (length words) recordWords (follows-length begun words follows)) (go (eqb (length values) orderCount))
-  where
-    row : Row
-    row = lentRow system values
+module _ (begun : Option CallList) (words : List ℕ) (follows : FollowsBegun begun words) where
+  whole : length words ≡ recordWords
+  whole = follows-length begun words follows
 
-    refusal : ℕ
-    refusal = addRowRefusal (recordOf words) row
+  fresh-follows : (system : ℕ) → FollowsBegun (listAsked begun (freshRecord system)) (freshCallExit system words)
+  unfolding listAsked freshCallExit freshCallRefusal freshRefusal after recordAfter
+  fresh-follows system = rw (eq-eqb (length words) recordWords whole) (go (isSystem system) refl)
+    where
+      go :
+          (known : Bool) →
+          isSystem system ≡ known →
+          FollowsBegun
+          (cond known (some (record { system = system; rows = [] })) begun)
+          (unlessRefused (firstFault ((not known, unknownSystem) ∷ [])) (wordsOf (emptyRecord system)) words)
+      go true e = record { known = e; held = ap wordsOf (sym (fresh-of-known system e)) }
+      go false e = follows
 
-    go :
-        (forty : Bool) →
-        FollowsBegun
-        (cond forty (withCall begun row) begun)
-        (unlessRefused (ownFirst ((not forty, wrongWordCount) ∷ []) refusal) (wordsOf (withRow (recordOf words) row)) words)
-    go true = row-follows begun words row follows
-    go false = follows
+  add-row-follows :
+      (system : ℕ) (values : List ℕ) → FollowsBegun (listAsked begun (addRow system values)) (addRowCallExit words system values)
+  unfolding listAsked addRowCallExit addRowCallRefusal
+  add-row-follows system values = rw (eq-eqb (length words) recordWords whole) (go (eqb (length values) orderCount))
+    where
+      row : Row
+      row = lentRow system values
 
-asked-follows :
-    (asked : Asked) (begun : Option CallList) (words : List ℕ) →
-    FollowsBegun begun words →
-    FollowsBegun (listAsked begun asked) (leftBy words asked)
-unfolding leftBy listAsked
-asked-follows (freshRecord system) begun words follows = fresh-follows system begun words follows
-asked-follows (addRow system values) begun words follows = add-row-follows system values begun words follows
-asked-follows (askVerdict q) begun words follows = follows
+      go :
+          (forty : Bool) →
+          FollowsBegun
+          (cond forty (withCall begun row) begun)
+          (unlessRefused
+          (ownFirst ((not forty, wrongWordCount) ∷ []) (addRowRefusal (recordOf words) row))
+          (wordsOf (withRow (recordOf words) row))
+          words)
+      go true = row-follows begun words row follows
+      go false = follows
 
--- other than 122 words stay as they were
-left-alone : (words : List ℕ) (asked : Asked) → (length words ≡ recordWords → ⊥) → leftBy words asked ≡ words
-unfolding leftBy freshCallExit freshCallRefusal addRowCallExit addRowCallRefusal
-left-alone words (freshRecord system) other = rw (ne-eqb (length words) recordWords other)
-left-alone words (addRow system values) other = rw (ne-eqb (length words) recordWords other)
-left-alone words (askVerdict q) other = refl
+  asked-follows : (asked : Asked) → FollowsBegun (listAsked begun asked) (leftBy words asked)
+  unfolding leftBy listAsked
+  asked-follows (freshRecord system) = fresh-follows system
+  asked-follows (addRow system values) = add-row-follows system values
+  asked-follows (askVerdict q) = follows
 
-call-follows :
-    (call : Call) (begun : Option CallList) (words : List ℕ) →
-    FollowsBegun begun words →
-    FollowsBegun (listAtExit begun call) (wordsAtExit words call)
-unfolding wordsAtExit listAtExit
-call-follows call begun words follows = by-count (decLe recordWords (call .lent))
-  where
-    whole : length words ≡ recordWords
-    whole = follows-length begun words follows
+  -- other than 122 words stay as they were
+  left-alone : (part : List ℕ) (asked : Asked) → (length part ≡ recordWords → ⊥) → leftBy part asked ≡ part
+  unfolding leftBy freshCallExit freshCallRefusal addRowCallExit addRowCallRefusal
+  left-alone part (freshRecord system) other = rw (ne-eqb (length part) recordWords other)
+  left-alone part (addRow system values) other = rw (ne-eqb (length part) recordWords other)
+  left-alone part (askVerdict q) other = refl
 
-    by-count :
-        Dec (recordWords ≤ call .lent) →
-        FollowsBegun
-        (cond (leb recordWords (call .lent)) (listAsked begun (call .asked)) begun)
-        (leftBy (take (call .lent) words) (call .asked) ++ drop (call .lent) words)
-    by-count (yes all) =
-        rw (
-          le-leb recordWords (call .lent) all,
-          take-all (call .lent) words (omega (arith, whole)),
-          drop-of-length-le words {i = call .lent} (omega (arith, whole)),
-          append-nil,
-        )
-        (asked-follows (call .asked) begun words follows)
-    by-count (no fewer) =
-        let other : length (take (call .lent) words) ≡ recordWords → ⊥ =
-        λ e. omega (arith, length-take (call .lent) words, whole) in
-        rw (lt-leb recordWords (call .lent) (omega arith), left-alone (take (call .lent) words) (call .asked) other, take-append-drop)
-        follows
+  call-follows : (call : Call) → FollowsBegun (listAtExit begun call) (wordsAtExit words call)
+  unfolding wordsAtExit listAtExit
+  call-follows call = by-count (decLe recordWords (call .lent))
+    where
+      by-count :
+          Dec (recordWords ≤ call .lent) →
+          FollowsBegun
+          (cond (leb recordWords (call .lent)) (listAsked begun (call .asked)) begun)
+          (leftBy (take (call .lent) words) (call .asked) ++ drop (call .lent) words)
+      by-count (yes all) =
+          rw (
+            le-leb recordWords (call .lent) all,
+            take-all (call .lent) words (omega (arith, whole)),
+            drop-of-length-le words {i = call .lent} (omega (arith, whole)),
+            append-nil,
+          )
+          (asked-follows (call .asked))
+      by-count (no fewer) =
+          let other : length (take (call .lent) words) ≡ recordWords → ⊥ =
+          λ e. omega (arith, length-take (call .lent) words, whole) in
+          rw (lt-leb recordWords (call .lent) (omega arith), left-alone (take (call .lent) words) (call .asked) other, take-append-drop)
+          follows
 
 -- ---- any calls
 
@@ -220,4 +208,4 @@ pub calls-follow :
 unfolding listAfter wordsAfter
 calls-follow [] begun words follows = follows
 calls-follow (call ∷ calls) begun words follows =
-    calls-follow calls (listAtExit begun call) (wordsAtExit words call) (call-follows call begun words follows)
+    calls-follow calls (listAtExit begun call) (wordsAtExit words call) (call-follows begun words follows call)

@@ -51,7 +51,7 @@ record-after-system o (row ∷ rows) = record-after-system (addRowAnswer o row .
 pub book-at-answer :
     (o : Observation) (row : Row) (i : ℕ) → i < orderCount → isSound o ≡ true →
     bookAt (addRowAnswer o row .observation) i
-    ≡ bookCall reported (accepts (o .system)) (bookAt o i) (record { row = row; value = getD (row .values) i 0 })
+    ≡ bookCall reported (accepts (o .system)) (bookAt o i) (record { row = row; value = valueAt i row })
 unfolding bookCall bookAt nextBook
 book-at-answer o row i inside sound =
     by-acceptance
