@@ -15,7 +15,7 @@ use Rattle.groups.specs.Group.{groupValues}
 use Rattle.rows.specs.Systems.{isSystem}
 use Rattle.rows.specs.Orders.{orderCount}
 use Rattle.groups.specs.Exact.{exactGroup}
-use Rattle.groups.proofs.GroupSum.{group-values-le}
+use Rattle.groups.proofs.GroupSum.{groupValues-le}
 use Rattle.rows.specs.declared.Row.{Row}
 use Rattle.observation.specs.BookCalls.{Fed, AcceptedFit}
 use Rattle.rows.specs.Rows.{ValuesFit}
@@ -29,7 +29,7 @@ use Rattle.accuracy.proofs.Books.{BookNear, NearFed, books-near}
 
 worked-fits : (kind : Kind) (row : Row) (window : List ℤ) → Worked kind row window → ValuesFit row
 unfolding ValuesFit
-worked-fits kind row window worked i = rw (worked .values) (group-values-le kind (row .system) _ i)
+worked-fits kind row window worked i = rw (worked .values) (groupValues-le kind (row .system) _ i)
 
 pub worked-list-fits : (kind : Kind) (system : ℕ) (rows : List Row) → WorkedList kind system rows → AcceptedFit system 0 rows
 unfolding WorkedList

@@ -63,7 +63,7 @@ pub extern "C" fn kifsang_row(kind: u32, system: u32, lines: &[u64], values: &mu
     if values.len() != ORDER_COUNT {
         return WRONG_WORD_COUNT;
     }
-    hand_over_values(groups::group_values(kind_with(kind), system, lines), values)
+    hand_over_values(groups::group_row(kind_with(kind), system, lines), values)
 }
 
 // Writes the distortion of a row, in parts per thousand.
@@ -75,5 +75,8 @@ pub extern "C" fn kifsang_distortion(values: &[u32], parts_per_thousand: &mut u6
     if values.len() != ORDER_COUNT {
         return WRONG_WORD_COUNT;
     }
-    hand_over(groups::distortion(row_values(values)), parts_per_thousand)
+    hand_over(
+        distortion::distortion(row_values(values)),
+        parts_per_thousand,
+    )
 }

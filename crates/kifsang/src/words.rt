@@ -1,8 +1,8 @@
 // A row that a caller lends, as the library's array; an answer as its number and its value; a row that is answered.
-use groups::OrderValues;
 use refusals::Answer;
 use refusals::NO_REFUSAL;
 use rows::ORDER_COUNT;
+use rows::RowAnswer;
 use rows::first_values;
 ghost use mathlib.Core.Path.{_≡_};
 ghost use lib.ListN.{length};
@@ -44,15 +44,15 @@ fn put_row(row: &[u32], values: &mut [u32])
 }
 
 // Hands the values of a row to the caller, unless they are refused, and the refusal's number.
-pub(crate) fn hand_over_values(answer: OrderValues, values: &mut [u32]) -> u32
+pub(crate) fn hand_over_values(answer: RowAnswer, values: &mut [u32]) -> u32
     requires { ⌜ length (now values) ≡ orderCount ⌝ }
     ensures { λ r. ⌜ r ≡ answer .refusal ⌝ }
-    ensures { λ _. ⌜ now (values .exit) ≡ unlessRefused (answer .refusal) (answer .values) (now (values .entry)) ⌝ }
+    ensures { λ _. ⌜ now (values .exit) ≡ unlessRefused (answer .refusal) (answer .row .values) (now (values .entry)) ⌝ }
 {
     let refusal = answer.refusal;
-    let row = answer.values;
+    let row = answer.row;
     if refusal == NO_REFUSAL {
-        put_row(&row, values);
+        put_row(&row.values, values);
     }
     refusal
 }

@@ -19,8 +19,9 @@ use Rattle.columns.specs.Calls.{columnWidth}
 use Rattle.spectrum.specs.Line.{windowLength, linesOf}
 use Rattle.groups.specs.declared.Kind.{Kind}
 use Rattle.groups.specs.declared.Kind.the-variants.{HarmonicGroup, HarmonicSubgroup}
+use Rattle.groups.specs.Group.{windowRow}
 use Rattle.rows.specs.Systems.{isSystem}
-use Rattle.groups.proofs.GroupSum.{group-values-le}
+use Rattle.groups.proofs.GroupSum.{groupValues-le}
 use Rattle.rows.specs.declared.Row.{Row}
 use Rattle.observation.specs.declared.Observation.{Observation}
 use Rattle.observation.specs.Soundness.{isSound, mostWindows}
@@ -33,7 +34,7 @@ use Rattle.observation.proofs.CallList.{record-after-tabulate}
 use Rattle.recordings.specs.declared.Reading.{Reading}
 use Rattle.recordings.specs.Lines.{textLineBytes, textLineCount, textLineAt, textLineNumber, numberAt}
 use Rattle.recordings.specs.Faults.{isNone, noSystem, textLineRefusal, firstOf, refusalBefore, endRefusal}
-use Rattle.recordings.specs.Output.{systemIn, windowIn, windowCount, rowOf, rowsIn, recordIn, listingFor, harmlistOutput}
+use Rattle.recordings.specs.Output.{systemIn, windowIn, windowCount, rowsIn, recordIn, listingFor, harmlistOutput}
 use Rattle.recordings.specs.Reading.{windowBytes, beginOf, textLinesRefusal, blockLines, samplesOf, refusedWith, windowTaken, blockOf, outputOf}
 use Rattle.recordings.specs.Blocks.{joined, readingAfter, WholeButLast, FollowsDefinition, RefusedStays, StopsAtRefusal}
 use Rattle.recordings.proofs.NumberOnLine.{number-of-cut}
@@ -52,8 +53,8 @@ record GoesOn (text : List ℕ) (w : ℕ) (reading : Reading) : Type 0 where
   windows-are : reading .observation .windows ≡ w
   sound : isSound (reading .observation) ≡ true
   record-is : reading .observation ≡ recordIn text w
-  group-is : 0 < w → reading .group ≡ rowOf HarmonicGroup (systemIn text) (windowIn text (w - 1)) .values
-  subgroup-is : 0 < w → reading .subgroup ≡ rowOf HarmonicSubgroup (systemIn text) (windowIn text (w - 1)) .values
+  group-is : 0 < w → reading .group ≡ windowRow HarmonicGroup (systemIn text) (windowIn text (w - 1)) .values
+  subgroup-is : 0 < w → reading .subgroup ≡ windowRow HarmonicSubgroup (systemIn text) (windowIn text (w - 1)) .values
 
 record Holds (text : List ℕ) (w : ℕ) (reading : Reading) : Type 0 where
   long : length text ≡ textLineBytes * linesTo w
@@ -106,12 +107,12 @@ begins line e = record {
 -- ---- one window more
 
 -- the values of a row that is worked out are numbers of 32 bits
-row-fits : (kind : Kind) (system : ℕ) (window : List ℤ) → ValuesFit (rowOf kind system window)
-unfolding ValuesFit rowOf
-row-fits kind system window i = group-values-le kind system (linesOf window) i
+row-fits : (kind : Kind) (system : ℕ) (window : List ℤ) → ValuesFit (windowRow kind system window)
+unfolding ValuesFit windowRow
+row-fits kind system window i = groupValues-le kind system (linesOf window) i
 
-system-of-row : (kind : Kind) (system : ℕ) (window : List ℤ) → rowOf kind system window .system ≡ system
-unfolding rowOf
+system-of-row : (kind : Kind) (system : ℕ) (window : List ℤ) → windowRow kind system window .system ≡ system
+unfolding windowRow
 system-of-row kind system window = refl
 
 -- a sound record refuses a row of its own system only where it is full
@@ -140,13 +141,13 @@ not-full w e = by-count (decLe mostWindows w)
 
 -- the row that a window adds to the record
 groupRow : Reading → List ℕ → Row
-groupRow reading block = rowOf HarmonicGroup (reading .observation .system) (samplesOf block)
+groupRow reading block = windowRow HarmonicGroup (reading .observation .system) (samplesOf block)
 
 system-of-with : (o : Observation) (row : Row) → withRow o row .system ≡ o .system
 unfolding withRow
 system-of-with o row = refl
 
-record-next : (text : List ℕ) (w : ℕ) → recordIn text (w + 1) ≡ addRowAnswer (recordIn text w) (rowOf HarmonicGroup (systemIn text) (windowIn text w)) .observation
+record-next : (text : List ℕ) (w : ℕ) → recordIn text (w + 1) ≡ addRowAnswer (recordIn text w) (windowRow HarmonicGroup (systemIn text) (windowIn text w)) .observation
 unfolding recordIn rowsIn
 record-next text w = record-after-tabulate _ w _
 
@@ -215,7 +216,7 @@ module _ (p block : List ℕ) (w : ℕ) (reading : Reading) (h : Holds p w readi
       window-next : windowIn (p ++ block) w ≡ samplesOf block
       window-next = window-after p block w (h .long)
 
-      row-next : (kind : Kind) → rowOf kind (systemIn (p ++ block)) (windowIn (p ++ block) (w + 1 - 1)) ≡ rowOf kind (reading .observation .system) (samplesOf block)
+      row-next : (kind : Kind) → windowRow kind (systemIn (p ++ block)) (windowIn (p ++ block) (w + 1 - 1)) ≡ windowRow kind (reading .observation .system) (samplesOf block)
       row-next kind =
           let last : w + 1 - 1 ≡ w = omega arith in
           rw (last, system-next, window-next)
@@ -230,7 +231,7 @@ module _ (p block : List ℕ) (w : ℕ) (reading : Reading) (h : Holds p w readi
       unfolding windowTaken groupRow
       goes-next z =
           let o = reading .observation in
-          let row = rowOf HarmonicGroup (o .system) (samplesOf block) in
+          let row = windowRow HarmonicGroup (o .system) (samplesOf block) in
           let room : o .windows < mostWindows = rw (goes .windows-are) (not-full w (sym window-refusal ∙ z)) in
           let added = answer-with-row o row z in
           record {

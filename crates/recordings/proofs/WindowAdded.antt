@@ -8,13 +8,13 @@ use lib.IntN.{ℤ}
 use lib.ListN.{length}
 use Rattle.refusals.specs.Numbers.{noRefusal, shortWindow}
 use Rattle.groups.specs.declared.Kind.the-variants.{HarmonicGroup}
+use Rattle.groups.specs.Group.{windowRow}
 use Rattle.rows.specs.declared.Row.{Row}
 use Rattle.observation.specs.declared.Observation.{Observation}
 use Rattle.observation.specs.Soundness.{mostWindows}
 use Rattle.observation.specs.Calls.{addRowRefusal, addRowAnswer, withRow}
 use Rattle.observation.proofs.SoundRecord.{not-refused, accepted-not-full}
 use Rattle.recordings.specs.declared.Reading.{Reading}
-use Rattle.recordings.specs.Output.{rowOf}
 use Rattle.recordings.specs.Reading.{windowBytes, textLinesRefusal, blockLines, samplesOf, windowTaken, blockOf}
 use Rattle.recordings.proofs.BlockLaws.{block-of-refused, block-of-fault, block-of-short, block-of-whole}
 
@@ -37,7 +37,7 @@ window-added :
 unfolding windowTaken addRowAnswer
 window-added reading window e =
     let o = reading .observation in
-    let row = rowOf HarmonicGroup (o .system) window in (
+    let row = windowRow HarmonicGroup (o .system) window in (
       accepted-not-full (o .system) (o .windows) row (not-refused o row e .1),
       ap (λ (r : Observation). r .windows) (answer-with-row o row e) ∙ windows-of-with o row,
     )

@@ -14,6 +14,7 @@ use Rattle.columns.specs.Calls.{listingRefusal}
 use Rattle.spectrum.specs.Line.{windowLength}
 use Rattle.spectrum.specs.Spectrum.{outOfRange}
 use Rattle.groups.specs.declared.Kind.the-variants.{HarmonicGroup, HarmonicSubgroup}
+use Rattle.groups.specs.Group.{windowRow}
 use Rattle.rows.specs.Orders.{orderCount}
 use Rattle.observation.specs.Soundness.{isSound}
 use Rattle.observation.specs.Calls.{emptyRecord, addRowAnswer}
@@ -21,7 +22,7 @@ use Rattle.rows.specs.Systems.{refusedSystem}
 use Rattle.recordings.specs.declared.Reading.{Reading}
 use Rattle.recordings.specs.Lines.{textLineBytes, textLineCount, textLineAt, textLineNumber, numberOr0, numberAt}
 use Rattle.recordings.specs.Faults.{isNone, textLineRefusal, firstOf}
-use Rattle.recordings.specs.Output.{systemIn, rowOf}
+use Rattle.recordings.specs.Output.{systemIn}
 
 -- the bytes of a window's lines
 abbrev pub windowBytes : ℕ
@@ -79,13 +80,13 @@ refusedWith fault reading =
 -- a whole window without a fault: its harmonic groups are added to the record, 9 where that holds 45,000 windows
 unfoldable pub windowTaken : Reading → List ℤ → Reading
 windowTaken reading window =
-    let row = rowOf HarmonicGroup (reading .observation .system) window in
+    let row = windowRow HarmonicGroup (reading .observation .system) window in
     let added = addRowAnswer (reading .observation) row in
     record {
       refusal = added .refusal;
       observation = added .observation;
       group = row .values;
-      subgroup = rowOf HarmonicSubgroup (reading .observation .system) window .values;
+      subgroup = windowRow HarmonicSubgroup (reading .observation .system) window .values;
     }
 
 -- the reading after a block; a reading that is refused stays as it is, and so does any at an empty block

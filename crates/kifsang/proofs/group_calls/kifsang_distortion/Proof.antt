@@ -3,7 +3,7 @@ use mathlib.Core.Path.{_≡_, refl}
 use borrow.Author.Needs.{needs}
 use borrow.Author.Tests.{eq-eqb, ne-eqb}
 use Rattle.rows.specs.Orders.{orderCount}
-use Rattle.groups.specs.Distortion.{distortionOf, distortionAnswer}
+use Rattle.distortion.specs.Distortion.{distortionOf, distortionAnswer}
 use Rattle.kifsang.specs.GroupCalls.{distortionCallRefusal, distortionCallExit}
 use Rattle.kifsang.proofs.Handed.{handed-answer}
 use Rattle.kifsang.proofs.group_calls.kifsang_distortion.Statement.{statement}

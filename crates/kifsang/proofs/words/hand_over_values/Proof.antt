@@ -6,23 +6,13 @@ use Rattle.refusals.specs.Numbers.{noRefusal}
 use Rattle.kifsang.proofs.words.hand_over_values.Statement.{statement}
 use Rattle.kifsang.proofs.words.hand_over_values.Tie as tie
 
-slice-aggregate-put-row : tie.Need-slice-aggregate-put-row
-slice-aggregate-put-row c = search needs
-
-put-row-requires : tie.Need-put-row-requires
-put-row-requires c κs = search needs
-
-same-length : tie.Need-same-length
-same-length c = search needs
-
 returns : tie.Need-returns
 returns c =
     let at-put = c .before .before in
-    (refl, rw (at-put .before .before .before .if1 .taken) (at-put .put-row .ensures))
+    (refl, rw (at-put .before .before .before .before .before .if1 .taken) (at-put .put-row .ensures))
 
 returns-2 : tie.Need-returns-2
 returns-2 c = (refl, rw (ne-eqb _ noRefusal (c .if1 .left)))
 
 pub hand-over-values-spec : {M : Type 1} → statement M
-hand-over-values-spec =
-    tie.close (tie.spec slice-aggregate-put-row put-row-requires same-length returns returns-2)
+hand-over-values-spec = tie.close (tie.spec (λ c κs. search needs) (λ c. search needs) returns returns-2)

@@ -1,36 +1,15 @@
 -- `recordings::blocks::take_window` meets its contract.
 use mathlib.Core.Path.{refl, _∙_}
 use borrow.Author.Needs.{needs}
-use Rattle.groups.specs.Group.{groupValuesAnswer}
-use Rattle.recordings.specs.Output.{rowOf}
+use Rattle.groups.specs.Group.{windowRow}
+use Rattle.groups.proofs.GroupSum.{groupRowAnswer-values}
 use Rattle.recordings.specs.Reading.{windowTaken}
 use Rattle.recordings.proofs.WindowLines.{lines-of-window}
 use Rattle.recordings.proofs.blocks.take_window.Statement.{statement}
 use Rattle.recordings.proofs.blocks.take_window.Tie as tie
 
-slice-aggregate-spectrum : tie.Need-slice-aggregate-spectrum
-slice-aggregate-spectrum c = search needs
-
-spectrum-requires : tie.Need-spectrum-requires
-spectrum-requires c κs = search needs
-
-slice-aggregate-group-values : tie.Need-slice-aggregate-group-values
-slice-aggregate-group-values c = search needs
-
-group-values-requires : tie.Need-group-values-requires
-group-values-requires c κs = search needs
-
-slice-aggregate-group-values-2 : tie.Need-slice-aggregate-group-values-2
-slice-aggregate-group-values-2 c = search needs
-
-group-values-requires-2 : tie.Need-group-values-requires-2
-group-values-requires-2 c κs = search needs
-
-add-row-requires : tie.Need-add-row-requires
-add-row-requires c κs = search needs
-
 returns : tie.Need-returns
-unfolding windowTaken rowOf groupValuesAnswer
+unfolding windowTaken windowRow
 returns c =
     let at-added = c .before in
     let at-subgroups = at-added .before .before .before in
@@ -39,17 +18,17 @@ returns c =
     let start = at-lines .before .before in
     let samples = start .args .samples .now in
     let lines = at-lines .spectrum .ensures .1 ∙ lines-of-window samples _ (start .pre .0) refl (start .pre .1) in
-    rw (at-added .add-row .ensures, at-subgroups .group-values2 .ensures, at-groups .group-values .ensures, lines)
+    rw (at-added .add-row .ensures, at-subgroups .group-row2 .ensures, at-groups .group-row .ensures, lines, groupRowAnswer-values, groupRowAnswer-values)
 
 pub take-window-spec : {M : Type 1} → statement M
 take-window-spec =
     tie.close
     (tie.spec
-    slice-aggregate-spectrum
-    spectrum-requires
-    slice-aggregate-group-values
-    group-values-requires
-    slice-aggregate-group-values-2
-    group-values-requires-2
-    add-row-requires
+    (λ c. search needs)
+    (λ c κs. search needs)
+    (λ c. search needs)
+    (λ c κs. search needs)
+    (λ c. search needs)
+    (λ c κs. search needs)
+    (λ c κs. search needs)
     returns)
