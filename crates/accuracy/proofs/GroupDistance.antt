@@ -26,13 +26,13 @@ use Rattle.spectrum.specs.Spectrum.{outOfRange}
 use Rattle.spectrum.proofs.Distance.{cosine-sum-near, sine-sum-near}
 use Rattle.spectrum.proofs.Lines.{length-linesOf, getD-linesOf, no-line-too-large}
 use Rattle.groups.specs.declared.Kind.{Kind}
-use Rattle.groups.specs.Weights.{Weighted, weightsOf, weightedSum}
+use Rattle.groups.specs.Spans.{Weighted, weightsOf, weightedSum}
 use Rattle.groups.specs.Exact.{exactGroup, exactGroupNumerator}
 use Rattle.groups.specs.Group.{lineAt, groupValue, groupRefusal, groupAnswer}
 use Rattle.rows.specs.Systems.{isSystem}
 use Rattle.rows.specs.Orders.{orderCount, isOrder}
 use Rattle.groups.proofs.GroupSum.{group-sum-lt}
-use Rattle.groups.proofs.Weights.{totalTwiceWeight, largestTotal, weights-total-le, weights-line-lt, weightedSum-eq}
+use Rattle.groups.proofs.Weights.{totalTwiceWeight, largestTotal, weightsOf-total-le, weightsOf-line-lt, weightedSum-eq}
 use Rattle.accuracy.specs.Distance.{EveryOrder, InRange, GroupsNear, groupMargin}
 
 module _ (window : List ℤ) where
@@ -134,7 +134,7 @@ lines-of-group kind system order window known-system known-order =
     let xs = weightsOf kind system order in
     weightedSum-eq _ _ xs
     (everywhere-imp _ _ (λ x inside. getD-linesOf window (x .line) inside) xs
-    (weights-line-lt kind system order known-system known-order))
+    (weightsOf-line-lt kind system order known-system known-order))
 
 pub groups-near : GroupsNear
 unfolding GroupsNear groupAnswer groupValue exactGroup exactGroupNumerator whole Fraction.square
@@ -144,7 +144,7 @@ groups-near kind system window known-system in-range order above-zero at-most =
     let accepted = lines-accepted system order window known-system known-order in-range in
     let same = lines-of-group kind system order window known-system known-order in
     let small = lt-rootLimit _ (group-sum-lt kind system order (linesOf window) accepted) in
-    let within = within-seven window (in-range .samples) xs (weights-total-le kind system order known-system) _ same small in
+    let within = within-seven window (in-range .samples) xs (weightsOf-total-le kind system order known-system known-order) _ same small in
     record {
       answered = accepted;
       value-near = record {

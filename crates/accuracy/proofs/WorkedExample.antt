@@ -17,7 +17,7 @@ use Rattle.spectrum.proofs.Pulse as Pulse
 use Rattle.spectrum.proofs.Pulse.{pulse, pulse-in-range}
 use Rattle.groups.specs.declared.Kind.{Kind}
 use Rattle.groups.specs.declared.Kind.the-variants.{HarmonicGroup}
-use Rattle.groups.specs.Weights.{wholeLines, weightsOf, weightedSum}
+use Rattle.groups.specs.Spans.{spanOf, weightsIn, weightedSum}
 use Rattle.groups.specs.Group.{groupValue, groupRefusal, groupAnswer, groupValues}
 use Rattle.rows.specs.Systems.{isSystem}
 use Rattle.rows.specs.Orders.{orderCount, isOrder}
@@ -82,7 +82,7 @@ unfolding linesOf
 pulse-lines = Pulse.pulse-lines 0 lineCount
 
 pulse-value : groupAnswer HarmonicGroup 10 3 (replicate lineCount 4000000) .value ≡ 8944
-unfolding groupAnswer groupRefusal isSystem isOrder groupValue rootOf largest weightsOf wholeLines weightedSum sumOver tabulate anyOf
+unfolding groupAnswer groupRefusal isSystem isOrder groupValue rootOf largest spanOf weightsIn weightedSum sumOver tabulate anyOf
 pulse-value = refl
 
 pulse-group : valueOf HarmonicGroup 10 3 pulse ≡ 8944

@@ -15,7 +15,7 @@ use Rattle.rows.specs.Rows.{ValuesFit}
 use Rattle.groups.specs.declared.Kind.{Kind}
 use Rattle.groups.specs.Group.{groupValues}
 use Rattle.groups.specs.Exact.{exactGroup}
-use Rattle.groups.proofs.GroupSum.{group-values-le}
+use Rattle.groups.proofs.GroupSum.{groupValues-le}
 use Rattle.observation.specs.Smoothing.{smoothedMargin}
 use Rattle.observation.specs.BookCalls.{valueAt, AcceptedFit}
 use Rattle.accuracy.specs.Distance.{groupMargin, EveryOrder, valueOf, ValueNear, GroupsNear}
@@ -28,7 +28,7 @@ use Rattle.accuracy.proofs.Books.{BookNear, margins-kept, exact-book-ne
 module _ (kind : Kind) (row : Row) (window : List ℤ) (worked : Worked kind row window) where
   worked-fits : ValuesFit row
   unfolding ValuesFit
-  worked-fits i = rw (worked .values) (group-values-le kind (row .system) _ i)
+  worked-fits i = rw (worked .values) (groupValues-le kind (row .system) _ i)
 
   -- the value that the row holds of an order
   worked-value : EveryOrder (λ order. valueAt (order - 1) row ≡ valueOf kind (row .system) order window)

@@ -19,7 +19,8 @@ use Rattle.rows.specs.Orders.{orderCount}
 use Rattle.distortion.specs.Distortion.{sumOfSquares, squaredThousand, distortionDigits, distortionOf}
 
 -- the square at a place, and those after it
-pub sumOfSquares-drop : (values : List ℕ) (i : ℕ) → i < length values → sumOfSquares (drop i values) ≡ sumOfSquares (drop (i + 1) values) + getD values i 0 * getD values i 0
+pub sumOfSquares-drop : (values : List ℕ) (i : ℕ) → i < length values
+    → sumOfSquares (drop i values) ≡ sumOfSquares (drop (i + 1) values) + getD values i 0 * getD values i 0
 unfolding sumOfSquares sumOver
 sumOfSquares-drop values i h = rw (add-one i, drop-cons values i 0 h) (omega arith)
 
@@ -99,7 +100,8 @@ root-quotient r x pos small =
     (omega (arith, mul-le-mul above above, root-law x small .1))
 
 -- the distortion of a row of 32-bit values, as it is worked out over four limbs
-pub distortion-quotient : (values : List ℕ) → length values ≡ orderCount → ((i : ℕ) → getD values i 0 < 2 ^ 32) → 0 < getD values 0 0 → rootOf (valueOf (limbsOf wideLimbs (squaredThousand * valueOf (limbsOf wideLimbs (sumOfSquares (drop 1 values)))))) / getD values 0 0 ≡ distortionOf values
+pub distortion-quotient : (values : List ℕ) → length values ≡ orderCount → ((i : ℕ) → getD values i 0 < 2 ^ 32) → 0 < getD values 0 0
+    → rootOf (valueOf (limbsOf wideLimbs (squaredThousand * valueOf (limbsOf wideLimbs (sumOfSquares (drop 1 values)))))) / getD values 0 0 ≡ distortionOf values
 unfolding distortionOf
 distortion-quotient values e h pos =
     let sum = sumOfSquares (drop 1 values) in

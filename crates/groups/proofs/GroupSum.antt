@@ -8,7 +8,7 @@ use native.Mathlib.Decide.{ℕ-discrete, decLt}
 use native.Mathlib.Omega.{arith}
 use lib.Dec.{ltb, lit<}
 use lib.ListN.{length, getD, replicate, List·getD-eq-default}
-use borrow.Author.Tests.{ltb-false, eqb-true, not-false}
+use borrow.Author.Tests.{ltb-false, eqb-true, ne-eqb, not-false}
 use Rattle.algebra.specs.Lists.{tabulate, anyOf}
 use Rattle.algebra.proofs.Lists.{anyOf-none, getD-tabulate-le, tabulate-same}
 use Rattle.integers.proofs.Root.{lt-rootLimit, root-of-largest, root-le-of-le}
@@ -54,7 +54,8 @@ lineAt-le lines e k = by-place (decLt k (length lines))
         omega arith
 
 -- lines in range, with any weights that add up to at most 12: their sum of 2×w×L fits 64 bits
-pub weightedSum-lt : (lines : List ℕ) → anyOf (ltb largestLine) lines ≡ false → (xs : List Weighted) → totalTwiceWeight xs ≤ largestTotal → weightedSum (lineAt lines) xs < 2 ^ 64
+pub weightedSum-lt : (lines : List ℕ) → anyOf (ltb largestLine) lines ≡ false
+    → (xs : List Weighted) → totalTwiceWeight xs ≤ largestTotal → weightedSum (lineAt lines) xs < 2 ^ 64
 weightedSum-lt lines e xs h =
     omega (
       arith,
@@ -79,7 +80,8 @@ module _ (kind : Kind) (system order : ℕ) (lines : List ℕ) where
       rw root-of-largest at (root-le-of-le sum (2 ^ 64 - 1) fits (lt-rootLimit (2 ^ 64 - 1) (lit< tt)))
 
   -- what is answered for an order that is not refused, and for one that is
-  pub accepted-value : groupRefusal system order lines ≡ noRefusal → groupAnswer kind system order lines .value ≡ groupValue kind system order lines
+  pub accepted-value : groupRefusal system order lines ≡ noRefusal
+      → groupAnswer kind system order lines .value ≡ groupValue kind system order lines
   unfolding groupAnswer
   accepted-value = unlessRefused-accepted (groupRefusal system order lines) (groupValue kind system order lines) 0
 
@@ -98,7 +100,8 @@ module _ (kind : Kind) (system order : ℕ) (lines : List ℕ) where
 -- ---- a row
 
 -- an order 1..40 is refused where the row is, with the same number
-pub groupRefusal-of-place : (system i : ℕ) (lines : List ℕ) → i < orderCount → groupRefusal system (i + 1) lines ≡ groupRowRefusal system lines
+pub groupRefusal-of-place : (system i : ℕ) (lines : List ℕ) → i < orderCount
+    → groupRefusal system (i + 1) lines ≡ groupRowRefusal system lines
 unfolding groupRefusal groupRowRefusal
 groupRefusal-of-place system i lines inside = rw (order-of-place i inside)
 
@@ -119,9 +122,10 @@ module _ (kind : Kind) (system : ℕ) (lines : List ℕ) where
   unfolding groupRowAnswer refusedRow
   groupRowAnswer-values = by-refusal (ℕ-discrete (groupRowRefusal system lines) noRefusal)
     where
-      by-refusal : Dec (groupRowRefusal system lines ≡ noRefusal) → groupRowAnswer kind system lines .row .values ≡ groupValues kind system lines
+      by-refusal : Dec (groupRowRefusal system lines ≡ noRefusal)
+          → groupRowAnswer kind system lines .row .values ≡ groupValues kind system lines
       by-refusal (yes e) = rw e
-      by-refusal (no f) = rw (unlessRefused-refused (groupRowRefusal system lines) (record { system = system; values = groupValues kind system lines }) refusedRow f) (sym (refused-values f))
+      by-refusal (no f) = rw (ne-eqb (groupRowRefusal system lines) noRefusal f) (sym (refused-values f))
 
 -- the hypotheses can be met: the last order, at lines as large as any that is taken
 largest-lines-accepted : groupRefusal 12 orderCount (tabulate lineCount (λ k. largestLine)) ≡ noRefusal

@@ -1,4 +1,4 @@
--- Laws of the weighted sum over any list of weights, and of the weights in any span: every line is before the span's end, and the sum of 2×w×L is twice the sum of the lines, less one line at each end where the ends are half.
+-- Laws of the weighted sum over any list of weights, and over any span: every line is before the span's end, and the sum of 2×w×L is twice the sum of the lines, less one line at each end where the ends are half.
 -- Of the kinds' spans: for systems 10 and 12 twice the weights add up to at most 24, and for orders 1..40 the span ends among the 512 lines.
 use mathlib.Core.Path.{_≡_, refl, sym, ap, _∙_}
 use mathlib.Core.Bool.{Bool, true, false, cond, true≢false}
@@ -35,7 +35,8 @@ totalTwiceWeight xs = sumOver (λ x. x .twiceWeight) xs
 
 module _ (f : ℕ → ℕ) where
   -- lines that are alike have the same sum
-  pub weightedSum-eq : (g : ℕ → ℕ) (xs : List Weighted) → EveryLine (λ k. f k ≡ g k) xs → weightedSum f xs ≡ weightedSum g xs
+  pub weightedSum-eq : (g : ℕ → ℕ) (xs : List Weighted)
+      → EveryLine (λ k. f k ≡ g k) xs → weightedSum f xs ≡ weightedSum g xs
   unfolding weightedSum
   weightedSum-eq g xs e = sumOver-eq _ _ xs (everywhere-imp _ _ (λ x same. ap (λ line. x .twiceWeight * line) same) xs e)
 
@@ -52,6 +53,16 @@ module _ (f : ℕ → ℕ) where
 unfoldable pub linesTotal : (ℕ → ℕ) → ℕ → ℕ → ℕ
 linesTotal f first zero = 0
 linesTotal f first (suc count) = linesTotal f first count + f (first + count)
+
+-- the sum of the lines of a span, each taken once, and of its first line and its last
+abbrev pub spanTotal : (ℕ → ℕ) → Span → ℕ
+spanTotal f span = linesTotal f (span .first) (span .count)
+
+abbrev pub lastLine : Span → ℕ
+lastLine span = span .first + (span .count - 1)
+
+abbrev endLines : (ℕ → ℕ) → Span → ℕ
+endLines f span = f (span .first) + f (lastLine span)
 
 -- a span with half ends has two
 abbrev pub TwoEnds : Span → Type 0
@@ -80,22 +91,24 @@ module _ (f : ℕ → ℕ) (first : ℕ) where
 abbrev linesWith : (ℕ → ℕ) → ℕ → ℕ → List Weighted
 linesWith twice first count = tabulate count (λ i. record { line = first + i; twiceWeight = twice i })
 
-linesWith-line-lt : (P : ℕ → Type 0) (twice : ℕ → ℕ) (first count : ℕ) → ((i : ℕ) → i < count → P (first + i)) → EveryLine P (linesWith twice first count)
+linesWith-every : (P : ℕ → Type 0) (twice : ℕ → ℕ) (first count : ℕ)
+    → ((i : ℕ) → i < count → P (first + i)) → EveryLine P (linesWith twice first count)
 unfolding tabulate
-linesWith-line-lt P twice first zero p = tt
-linesWith-line-lt P twice first (suc count) p =
+linesWith-every P twice first zero p = tt
+linesWith-every P twice first (suc count) p =
     everywhere-append _ (linesWith twice first count) _
-    (linesWith-line-lt P twice first count (λ i h. p i (omega arith)))
+    (linesWith-every P twice first count (λ i h. p i (omega arith)))
     (p count (omega arith), tt)
 
 -- every line of a span is before its end
 pub weightsIn-line-lt : (span : Span) → EveryLine (λ k. k < span .first + span .count) (weightsIn span)
 unfolding weightsIn
-weightsIn-line-lt span = linesWith-line-lt _ _ (span .first) (span .count) (λ i h. omega arith)
+weightsIn-line-lt span = linesWith-every _ _ (span .first) (span .count) (λ i h. omega arith)
 
 module _ (f : ℕ → ℕ) (twice : ℕ → ℕ) (first : ℕ) where
   -- one line more
-  linesWith-suc : (count : ℕ) → weightedSum f (linesWith twice first (count + 1)) ≡ weightedSum f (linesWith twice first count) + twice count * f (first + count)
+  linesWith-suc : (count : ℕ)
+      → weightedSum f (linesWith twice first (count + 1)) ≡ weightedSum f (linesWith twice first count) + twice count * f (first + count)
   unfolding weightedSum sumOver tabulate
   linesWith-suc count = rw (add-one count, sumOver-append _ (linesWith twice first count) _) (omega arith)
 
@@ -104,7 +117,8 @@ module _ (f : ℕ → ℕ) (twice : ℕ → ℕ) (first : ℕ) where
   linesWith-none = refl
 
   -- lines with weight 1 after some others
-  linesWith-whole : (from count : ℕ) → ((i : ℕ) → i < count → twice (from + i) ≡ 2) → weightedSum f (linesWith twice first (from + count)) + 2 * linesTotal f first from ≡ weightedSum f (linesWith twice first from) + 2 * linesTotal f first (from + count)
+  linesWith-whole : (from count : ℕ) → ((i : ℕ) → i < count → twice (from + i) ≡ 2)
+      → weightedSum f (linesWith twice first (from + count)) + 2 * linesTotal f first from ≡ weightedSum f (linesWith twice first from) + 2 * linesTotal f first (from + count)
   linesWith-whole from zero h = let e : from + 0 ≡ from = omega arith in rw e (omega arith)
   linesWith-whole from (suc count) h =
       let e : from + suc count ≡ from + count + 1 = omega arith in
@@ -116,11 +130,12 @@ at-start f first = ap f (omega arith)
 
 -- the sum over a span, with what its half ends leave out
 pub weightedSum-span : (f : ℕ → ℕ) (span : Span) → TwoEnds span
-    → weightedSum f (weightsIn span) + cond (span .«half_ends») (f (span .first) + f (span .first + (span .count - 1))) 0 ≡ 2 * linesTotal f (span .first) (span .count)
+    → weightedSum f (weightsIn span) + cond (span .«half_ends») (endLines f span) 0 ≡ 2 * spanTotal f span
 unfolding weightsIn linesTotal
 weightedSum-span f span two = by-ends (span .«half_ends») refl
   where
-    by-ends : (half : Bool) → span .«half_ends» ≡ half → weightedSum f (weightsIn span) + cond half (f (span .first) + f (span .first + (span .count - 1))) 0 ≡ 2 * linesTotal f (span .first) (span .count)
+    by-ends : (half : Bool) → span .«half_ends» ≡ half
+        → weightedSum f (weightsIn span) + cond half (endLines f span) 0 ≡ 2 * spanTotal f span
     by-ends true e =
         let between = span .count - 2 in
         let last = 1 + between in
@@ -128,7 +143,8 @@ weightedSum-span f span two = by-ends (span .«half_ends») refl
         let whole : last + 1 ≡ span .count = omega arith in
         let end : span .count - 1 ≡ last = omega arith in
         let first-half : twiceWeightAt span 0 ≡ 1 = rw e in
-        let last-half : twiceWeightAt span last ≡ 1 = rw (e, ne-eqb last 0 (λ z. omega arith), eq-eqb (last + 1) (span .count) whole) in
+        let last-half : twiceWeightAt span last ≡ 1 =
+        rw (e, ne-eqb last 0 (λ z. omega arith), eq-eqb (last + 1) (span .count) whole) in
         let all-between : (i : ℕ) → i < between → twiceWeightAt span (1 + i) ≡ 2 =
         λ i h. rw (e, ne-eqb (1 + i) 0 (λ z. omega arith), ne-eqb (1 + i + 1) (span .count) (λ z. omega arith)) in
         let all = linesWith-whole f (twiceWeightAt span) (span .first) 1 between all-between in
@@ -159,18 +175,19 @@ linesTotal-ones first zero = refl
 linesTotal-ones first (suc count) = rw (linesTotal-ones first count) (add-one count)
 
 -- twice the weights of a span: 2 for each line, less 2 where the ends are half
-pub totalTwiceWeight-span : (span : Span) → TwoEnds span → totalTwiceWeight (weightsIn span) + cond (span .«half_ends») 2 0 ≡ 2 * span .count
+pub totalTwiceWeight-span : (span : Span) → TwoEnds span
+    → totalTwiceWeight (weightsIn span) + cond (span .«half_ends») 2 0 ≡ 2 * span .count
 totalTwiceWeight-span span two =
     rw (weightedSum-ones (weightsIn span), linesTotal-ones (span .first) (span .count)) at
     (weightedSum-span (λ k. 1) span two)
 
 module _ (f : ℕ → ℕ) (span : Span) (two : TwoEnds span) where
   -- no line of a span has less than weight 1/2
-  pub linesTotal-le-weightedSum : linesTotal f (span .first) (span .count) ≤ weightedSum f (weightsIn span)
+  pub linesTotal-le-weightedSum : spanTotal f span ≤ weightedSum f (weightsIn span)
   linesTotal-le-weightedSum = omega (arith, weightedSum-span f span two, by-ends (span .«half_ends») two)
     where
       by-ends : (half : Bool) → (half ≡ true → 2 ≤ span .count)
-          → cond half (f (span .first) + f (span .first + (span .count - 1))) 0 ≤ linesTotal f (span .first) (span .count)
+          → cond half (endLines f span) 0 ≤ spanTotal f span
       by-ends true many =
           let two-lines = many refl in
           let before = span .count - 1 in
@@ -185,26 +202,26 @@ module _ (f : ℕ → ℕ) (span : Span) (two : TwoEnds span) where
 
   -- where the ends are half, the sum of all lines less the first, and that less the last
   pub record HalfEnds : Type 0 where
-    pub first-le : f (span .first) ≤ linesTotal f (span .first) (span .count)
-    pub last-le : f (span .first + (span .count - 1)) ≤ linesTotal f (span .first) (span .count)
+    pub first-le : f (span .first) ≤ spanTotal f span
+    pub last-le : f (lastLine span) ≤ spanTotal f span
     pub parts :
         weightedSum f (weightsIn span) ≡
-        linesTotal f (span .first) (span .count) - f (span .first) +
-        (linesTotal f (span .first) (span .count) - f (span .first + (span .count - 1)))
+        spanTotal f span - f (span .first) +
+        (spanTotal f span - f (lastLine span))
 
   pub weightedSum-halfEnds : span .«half_ends» ≡ true → HalfEnds
   weightedSum-halfEnds e =
       let many = two e in
-      let ends : cond (span .«half_ends») (f (span .first) + f (span .first + (span .count - 1))) 0 ≡ f (span .first) + f (span .first + (span .count - 1)) = rw e in
-      let first-le : f (span .first) ≤ linesTotal f (span .first) (span .count) =
+      let ends : cond (span .«half_ends») (endLines f span) 0 ≡ endLines f span = rw e in
+      let first-le : f (span .first) ≤ spanTotal f span =
       omega (arith, line-le-linesTotal f (span .first) 0 (span .count) (omega arith), at-start f (span .first)) in
       let last-le = line-le-linesTotal f (span .first) (span .count - 1) (span .count) (omega arith) in
       record { first-le = first-le; last-le = last-le; parts = omega (arith, weightedSum-span f span two) }
 
   -- else twice that sum
-  pub weightedSum-wholeEnds : span .«half_ends» ≡ false → weightedSum f (weightsIn span) ≡ linesTotal f (span .first) (span .count) + linesTotal f (span .first) (span .count)
+  pub weightedSum-wholeEnds : span .«half_ends» ≡ false → weightedSum f (weightsIn span) ≡ spanTotal f span + spanTotal f span
   weightedSum-wholeEnds e =
-      let ends : cond (span .«half_ends») (f (span .first) + f (span .first + (span .count - 1))) 0 ≡ 0 = rw e in
+      let ends : cond (span .«half_ends») (endLines f span) 0 ≡ 0 = rw e in
       omega (arith, weightedSum-span f span two)
 
 -- ---- the spans of the kinds
@@ -245,13 +262,18 @@ spanOf-bounds kind n h e o = of-kind kind (system-bounds n e) (centre-bounds n h
     of-kind InterharmonicCentredSubgroup s b = record { two-ends = λ half. omega arith; count-le = omega arith; end-le = omega arith }
 
 -- twice the weights of a kind add up to at most 24
-pub weightsOf-total-le : (kind : Kind) (n h : ℕ) → isSystem n ≡ true → isOrder h ≡ true → totalTwiceWeight (weightsOf kind n h) ≤ largestTotal
+pub weightsOf-total-le : (kind : Kind) (n h : ℕ) → isSystem n ≡ true → isOrder h ≡ true
+    → totalTwiceWeight (weightsOf kind n h) ≤ largestTotal
 weightsOf-total-le kind n h e o =
     let b = spanOf-bounds kind n h e o in
     omega (arith, totalTwiceWeight-span (spanOf kind n h) (b .two-ends))
 
 -- the lines of every kind are among the 512
-pub weightsOf-line-lt : (kind : Kind) (n h : ℕ) → isSystem n ≡ true → isOrder h ≡ true → EveryLine (λ k. k < lineCount) (weightsOf kind n h)
+pub weightsOf-line-lt : (kind : Kind) (n h : ℕ) → isSystem n ≡ true → isOrder h ≡ true
+    → EveryLine (λ k. k < lineCount) (weightsOf kind n h)
 weightsOf-line-lt kind n h e o =
     let b = spanOf-bounds kind n h e o in
-    everywhere-imp _ _ (λ (x : Weighted) (before : x .line < spanOf kind n h .first + spanOf kind n h .count). omega arith) (weightsOf kind n h) (weightsIn-line-lt (spanOf kind n h))
+    let span = spanOf kind n h in
+    everywhere-imp _ _ (λ (x : Weighted) (before : x .line < span .first + span .count). omega arith)
+    (weightsIn span)
+    (weightsIn-line-lt span)

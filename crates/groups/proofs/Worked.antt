@@ -9,6 +9,7 @@ use Rattle.algebra.specs.Lists.{tabulate, anyOf}
 use Rattle.algebra.specs.Weighted.{sumOver}
 use Rattle.integers.specs.Root.{rootOf}
 use Rattle.refusals.specs.declared.Answer.{Answer}
+use Rattle.rows.specs.declared.Row.{Row}
 use Rattle.rows.specs.declared.RowAnswer.{RowAnswer}
 use Rattle.rows.specs.Orders.{isOrder}
 use Rattle.rows.specs.Rows.{refusedRow}
@@ -129,7 +130,8 @@ pub record RowCase : Type 0 where
 -- refused: a row of system 10, and zeros
 abbrev refusedCase : ℕ → List ℕ → ℕ → RowCase
 refusedCase system lines refusal =
-    record { system = system; lines = lines; answered = record { refusal = refusal; row = record { system = 10; values = replicate 40 0 } } }
+    let row : Row = record { system = 10; values = replicate 40 0 } in
+    record { system = system; lines = lines; answered = record { refusal = refusal; row = row } }
 
 abbrev rowCases : List RowCase
 rowCases =

@@ -2,9 +2,9 @@
 use mathlib.Core.List.{List, [], _∷_}
 use Prim.Native.Nat.{ℕ}
 use Rattle.refusals.specs.Answers.{unlessRefused}
-use Rattle.groups.specs.Group.{groupValue, groupRefusal, groupValues}
+use Rattle.groups.specs.Group.{groupValue, groupRefusal, groupValues, groupRowRefusal}
 use Rattle.rows.specs.Orders.{orderCount}
-use Rattle.groups.specs.Distortion.{distortionOf, distortionAnswer}
+use Rattle.distortion.specs.Distortion.{distortionOf, distortionAnswer}
 use Rattle.kifsang.specs.Refusals.{ownFirst, wordCountCheck}
 use Rattle.kifsang.specs.Kinds.{kindWith, kindCheck}
 
@@ -18,10 +18,10 @@ unfoldable pub groupCallExit : ℕ → ℕ → ℕ → List ℕ → ℕ → ℕ
 groupCallExit kind system order lines value =
     unlessRefused (groupCallRefusal kind system order lines) (groupValue (kindWith kind) system order lines) value
 
--- 101; 102; then the row "group value" at order 1, which every order of a row shares
+-- 101; 102; then the row "group value" for all orders at once
 unfoldable pub rowCallRefusal : ℕ → ℕ → List ℕ → List ℕ → ℕ
 rowCallRefusal kind system lines values =
-    ownFirst (kindCheck kind ∷ wordCountCheck orderCount values ∷ []) (groupRefusal system 1 lines)
+    ownFirst (kindCheck kind ∷ wordCountCheck orderCount values ∷ []) (groupRowRefusal system lines)
 
 unfoldable pub rowCallExit : ℕ → ℕ → List ℕ → List ℕ → List ℕ
 rowCallExit kind system lines values =

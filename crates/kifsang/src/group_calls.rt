@@ -71,8 +71,9 @@ pub extern "C" fn kifsang_row(kind: u32, system: u32, lines: &[u64], values: &mu
     if own != NO_REFUSAL {
         return own;
     }
-    let answer = groups::group_values(kind_with(kind), system, lines);
-    hand_over_row(answer.refusal, &answer.values, values)
+    let answer = groups::group_row(kind_with(kind), system, lines);
+    let row = answer.row;
+    hand_over_row(answer.refusal, &row.values, values)
 }
 
 // Writes the distortion of a row, in parts per thousand.
@@ -85,5 +86,5 @@ pub extern "C" fn kifsang_distortion(values: &[u32], parts_per_thousand: &mut u6
     if own != NO_REFUSAL {
         return own;
     }
-    hand_over(groups::distortion(first_values(values)), parts_per_thousand)
+    hand_over(distortion::distortion(first_values(values)), parts_per_thousand)
 }

@@ -19,7 +19,8 @@ use Rattle.refusals.proofs.Answers.{no-faults}
 use Rattle.recordings.specs.declared.Reading.{Reading}
 use Rattle.recordings.specs.TextLines.{textLineBytes, textLineAt, textLineNumber, numberOr0, numberAt}
 use Rattle.recordings.specs.InputRefusal.{noSystem, numberChecks, numberRefusal, textLineRefusal, firstOf, refusalBefore}
-use Rattle.recordings.specs.Output.{systemIn, windowIn, rowOf, rowsIn, recordIn}
+use Rattle.recordings.specs.Output.{systemIn, windowIn, rowsIn, recordIn}
+use Rattle.groups.specs.Group.{windowRow}
 use Rattle.recordings.specs.Blocks.{beginOf}
 use Rattle.recordings.proofs.TextLines.{linesTo}
 
@@ -29,8 +30,8 @@ pub record GoesOn (text : List ℕ) (w : ℕ) (reading : Reading) : Type 0 where
   pub windows-are : reading .observation .windows ≡ w
   pub sound : isSound (reading .observation) ≡ true
   pub record-is : reading .observation ≡ recordIn text w
-  pub group-is : 0 < w → reading .group ≡ rowOf HarmonicGroup (systemIn text) (windowIn text (w - 1)) .values
-  pub subgroup-is : 0 < w → reading .subgroup ≡ rowOf HarmonicSubgroup (systemIn text) (windowIn text (w - 1)) .values
+  pub group-is : 0 < w → reading .group ≡ windowRow HarmonicGroup (systemIn text) (windowIn text (w - 1)) .values
+  pub subgroup-is : 0 < w → reading .subgroup ≡ windowRow HarmonicSubgroup (systemIn text) (windowIn text (w - 1)) .values
 
 pub record Holds (text : List ℕ) (w : ℕ) (reading : Reading) : Type 0 where
   pub long : length text ≡ textLineBytes * linesTo w

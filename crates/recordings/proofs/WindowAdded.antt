@@ -14,7 +14,7 @@ use Rattle.observation.specs.Soundness.{mostWindows}
 use Rattle.observation.specs.Calls.{addRowRefusal, addRowAnswer, withRow}
 use Rattle.observation.proofs.SoundRecord.{accepted-call}
 use Rattle.recordings.specs.declared.Reading.{Reading}
-use Rattle.recordings.specs.Output.{rowOf}
+use Rattle.groups.specs.Group.{windowRow}
 use Rattle.recordings.specs.Blocks.{windowBytes, textLinesRefusal, blockLines, samplesOf, windowTaken, blockOf}
 use Rattle.recordings.proofs.BlockLaws.{blockOf-refused, blockOf-text-line, blockOf-short, blockOf-whole}
 
@@ -37,7 +37,7 @@ windowTaken-added :
 unfolding windowTaken addRowAnswer
 windowTaken-added reading window e =
     let o = reading .observation in
-    let row = rowOf HarmonicGroup (o .system) window in (
+    let row = windowRow HarmonicGroup (o .system) window in (
       accepted-call o row e .row-accepted .room,
       ap (λ (r : Observation). r .windows) (addRowAnswer-accepted o row e) ∙ withRow-windows o row,
     )

@@ -13,7 +13,7 @@ use Rattle.refusals.specs.Numbers.{noRefusal, recordFull}
 use Rattle.spectrum.specs.Line.{windowLength, linesOf}
 use Rattle.groups.specs.declared.Kind.{Kind}
 use Rattle.groups.specs.declared.Kind.the-variants.{HarmonicGroup, HarmonicSubgroup}
-use Rattle.groups.proofs.GroupSum.{group-values-le}
+use Rattle.groups.proofs.GroupSum.{groupValues-le}
 use Rattle.rows.specs.declared.Row.{Row}
 use Rattle.observation.specs.declared.Observation.{Observation}
 use Rattle.observation.specs.Soundness.{isSound, mostWindows}
@@ -24,7 +24,8 @@ use Rattle.observation.proofs.RecordAfter.{record-after-tabulate}
 use Rattle.recordings.specs.declared.Reading.{Reading}
 use Rattle.recordings.specs.TextLines.{textLineBytes}
 use Rattle.recordings.specs.InputRefusal.{refusalBefore}
-use Rattle.recordings.specs.Output.{systemIn, windowIn, rowOf, rowsIn, recordIn}
+use Rattle.recordings.specs.Output.{systemIn, windowIn, rowsIn, recordIn}
+use Rattle.groups.specs.Group.{windowRow}
 use Rattle.recordings.specs.Blocks.{windowBytes, textLinesRefusal, blockLines, samplesOf, refusedWith, windowTaken, blockOf}
 use Rattle.recordings.proofs.BlockLaws.{blockLines-whole, blockOf-refused, blockOf-text-line, blockOf-whole}
 use Rattle.recordings.proofs.WindowAdded.{addRowAnswer-accepted, withRow-windows}
@@ -33,13 +34,13 @@ use Rattle.recordings.proofs.WindowRefusals.{refusalBefore-stays, refus
 use Rattle.recordings.proofs.Holds.{GoesOn, Holds}
 
 -- the values of a row that is worked out are numbers of 32 bits
-rowOf-fits : (kind : Kind) (system : ℕ) (window : List ℤ) → ValuesFit (rowOf kind system window)
-unfolding ValuesFit rowOf
-rowOf-fits kind system window i = group-values-le kind system (linesOf window) i
+windowRow-fits : (kind : Kind) (system : ℕ) (window : List ℤ) → ValuesFit (windowRow kind system window)
+unfolding ValuesFit windowRow
+windowRow-fits kind system window i = groupValues-le kind system (linesOf window) i
 
-rowOf-system : (kind : Kind) (system : ℕ) (window : List ℤ) → rowOf kind system window .system ≡ system
-unfolding rowOf
-rowOf-system kind system window = refl
+windowRow-system : (kind : Kind) (system : ℕ) (window : List ℤ) → windowRow kind system window .system ≡ system
+unfolding windowRow
+windowRow-system kind system window = refl
 
 -- a sound record refuses a row of its own system only where it is full
 addRowRefusal-own-row : (o : Observation) (row : Row) → isSound o ≡ true → row .system ≡ o .system → addRowRefusal o row ≡ cond (leb mostWindows (o .windows)) recordFull noRefusal
@@ -67,13 +68,13 @@ not-full w e = by-count (decLe mostWindows w)
 
 -- the row that a window adds to the record
 groupRow : Reading → List ℕ → Row
-groupRow reading block = rowOf HarmonicGroup (reading .observation .system) (samplesOf block)
+groupRow reading block = windowRow HarmonicGroup (reading .observation .system) (samplesOf block)
 
 withRow-system : (o : Observation) (row : Row) → withRow o row .system ≡ o .system
 unfolding withRow
 withRow-system o row = refl
 
-recordIn-next : (text : List ℕ) (w : ℕ) → recordIn text (w + 1) ≡ addRowAnswer (recordIn text w) (rowOf HarmonicGroup (systemIn text) (windowIn text w)) .observation
+recordIn-next : (text : List ℕ) (w : ℕ) → recordIn text (w + 1) ≡ addRowAnswer (recordIn text w) (windowRow HarmonicGroup (systemIn text) (windowIn text w)) .observation
 unfolding recordIn rowsIn
 recordIn-next text w = record-after-tabulate _ w _
 
@@ -133,7 +134,7 @@ module _ (p block : List ℕ) (w : ℕ) (reading : Reading) (h : Holds p w readi
       window-refusal : addRowRefusal (reading .observation) (groupRow reading block) ≡ cond (leb mostWindows w) recordFull noRefusal
       unfolding groupRow
       window-refusal =
-          addRowRefusal-own-row (reading .observation) (groupRow reading block) (goes .sound) (rowOf-system HarmonicGroup _ _)
+          addRowRefusal-own-row (reading .observation) (groupRow reading block) (goes .sound) (windowRow-system HarmonicGroup _ _)
           ∙ rw (goes .windows-are)
 
       system-next : systemIn (p ++ block) ≡ reading .observation .system
@@ -142,7 +143,7 @@ module _ (p block : List ℕ) (w : ℕ) (reading : Reading) (h : Holds p w readi
       window-next : windowIn (p ++ block) w ≡ samplesOf block
       window-next = windowIn-after p block w (h .long)
 
-      row-next : (kind : Kind) → rowOf kind (systemIn (p ++ block)) (windowIn (p ++ block) (w + 1 - 1)) ≡ rowOf kind (reading .observation .system) (samplesOf block)
+      row-next : (kind : Kind) → windowRow kind (systemIn (p ++ block)) (windowIn (p ++ block) (w + 1 - 1)) ≡ windowRow kind (reading .observation .system) (samplesOf block)
       row-next kind =
           let last : w + 1 - 1 ≡ w = omega arith in
           rw (last, system-next, window-next)
@@ -157,13 +158,13 @@ module _ (p block : List ℕ) (w : ℕ) (reading : Reading) (h : Holds p w readi
       unfolding windowTaken groupRow
       goes-next z =
           let o = reading .observation in
-          let row = rowOf HarmonicGroup (o .system) (samplesOf block) in
+          let row = windowRow HarmonicGroup (o .system) (samplesOf block) in
           let room : o .windows < mostWindows = rw (goes .windows-are) (not-full w (sym window-refusal ∙ z)) in
           let added = addRowAnswer-accepted o row z in
           record {
             system-is = ap (λ (r : Observation). r .system) added ∙ withRow-system o row ∙ sym system-next;
             windows-are = ap (λ (r : Observation). r .windows) added ∙ withRow-windows o row ∙ rw (goes .windows-are);
-            sound = rw added (with-row-sound o row (goes .sound) room (rowOf-fits HarmonicGroup (o .system) (samplesOf block)));
+            sound = rw added (with-row-sound o row (goes .sound) room (windowRow-fits HarmonicGroup (o .system) (samplesOf block)));
             record-is = record-is-next;
             group-is = λ l. ap (λ (r : Row). r .values) (sym (row-next HarmonicGroup));
             subgroup-is = λ l. ap (λ (r : Row). r .values) (sym (row-next HarmonicSubgroup));

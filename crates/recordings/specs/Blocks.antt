@@ -17,7 +17,8 @@ use Rattle.observation.specs.Calls.{emptyRecord, refusedRecord, addRowAnswer}
 use Rattle.recordings.specs.declared.Reading.{Reading}
 use Rattle.recordings.specs.TextLines.{textLineBytes, textLineCount, textLineAt, textLineNumber, numberOr0, numberAt}
 use Rattle.recordings.specs.InputRefusal.{isNone, textLineRefusal, firstOf}
-use Rattle.recordings.specs.Output.{systemIn, rowOf}
+use Rattle.recordings.specs.Output.{systemIn}
+use Rattle.groups.specs.Group.{windowRow}
 
 -- the bytes of a window's lines
 abbrev pub windowBytes : ℕ
@@ -78,13 +79,13 @@ refusedWith refusal reading =
 -- a whole window that is not refused: its harmonic groups are added to the record, 9 where that holds 45,000 windows
 unfoldable pub windowTaken : Reading → List ℤ → Reading
 windowTaken reading window =
-    let row = rowOf HarmonicGroup (reading .observation .system) window in
+    let row = windowRow HarmonicGroup (reading .observation .system) window in
     let added = addRowAnswer (reading .observation) row in
     record {
       refusal = added .refusal;
       observation = added .observation;
       group = row .values;
-      subgroup = rowOf HarmonicSubgroup (reading .observation .system) window .values;
+      subgroup = windowRow HarmonicSubgroup (reading .observation .system) window .values;
     }
 
 -- the reading after a block; a reading that is refused stays as it is, and so does any at an empty block

@@ -8,10 +8,10 @@ use Rattle.algebra.specs.Lists.{tabulate}
 use Rattle.refusals.specs.Numbers.{noRefusal}
 use Rattle.listing.specs.Listing.{listingText}
 use Rattle.listing.specs.RefusalLine.{refusalLine}
-use Rattle.spectrum.specs.Line.{windowLength, linesOf}
+use Rattle.spectrum.specs.Line.{windowLength}
 use Rattle.groups.specs.declared.Kind.{Kind}
 use Rattle.groups.specs.declared.Kind.the-variants.{HarmonicGroup, HarmonicSubgroup}
-use Rattle.groups.specs.Group.{groupValues}
+use Rattle.groups.specs.Group.{windowRow}
 use Rattle.rows.specs.declared.Row.{Row}
 use Rattle.observation.specs.declared.Observation.{Observation}
 use Rattle.observation.specs.Calls.{freshAnswer}
@@ -31,14 +31,9 @@ windowIn text w = tabulate windowLength (λ j. numberAt text (windowLength * w +
 unfoldable pub windowCount : List ℕ → ℕ
 windowCount text = (textLineCount text - 1) / windowLength
 
--- the 40 values of a kind for a window, with their system
-unfoldable pub rowOf : Kind → ℕ → List ℤ → Row
-rowOf kind system window =
-    record { system = system; values = groupValues kind system (linesOf window) }
-
 -- the rows of the first n windows
 unfoldable pub rowsIn : Kind → List ℕ → ℕ → List Row
-rowsIn kind text n = tabulate n (λ w. rowOf kind (systemIn text) (windowIn text w))
+rowsIn kind text n = tabulate n (λ w. windowRow kind (systemIn text) (windowIn text w))
 
 -- the record after those windows' harmonic groups: "smoothed is that of the harmonic groups"
 unfoldable pub recordIn : List ℕ → ℕ → Observation
@@ -49,8 +44,8 @@ unfoldable pub listingFor : List ℕ → List ℕ
 listingFor text =
     let last = windowIn text (windowCount text - 1) in
     listingText
-    (rowOf HarmonicGroup (systemIn text) last .values)
-    (rowOf HarmonicSubgroup (systemIn text) last .values)
+    (windowRow HarmonicGroup (systemIn text) last .values)
+    (windowRow HarmonicSubgroup (systemIn text) last .values)
     (recordIn text (windowCount text) .smoothed)
 
 -- all that harmlist writes: the listing, "or only one line"

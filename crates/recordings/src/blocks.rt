@@ -6,7 +6,7 @@ use crate::text_lines::number_on_line;
 use crate::text_lines::read_samples;
 use columns::COLUMN_WIDTH;
 use groups::Kind;
-use groups::group_values;
+use groups::group_row;
 use observation::Observation;
 use observation::add_row;
 use observation::fresh_record;
@@ -104,10 +104,10 @@ fn take_window(reading: Reading, samples: &[i32]) -> Reading
     spectrum(samples, 0, &mut lines);
     let observation = reading.observation;
     let system = observation.system;
-    let groups = group_values(Kind::HarmonicGroup, system, &lines);
-    let subgroups = group_values(Kind::HarmonicSubgroup, system, &lines);
-    let group = groups.values;
-    let subgroup = subgroups.values;
+    let groups = group_row(Kind::HarmonicGroup, system, &lines);
+    let subgroups = group_row(Kind::HarmonicSubgroup, system, &lines);
+    let group = groups.row.values;
+    let subgroup = subgroups.row.values;
     let row = Row {
         system,
         values: group,

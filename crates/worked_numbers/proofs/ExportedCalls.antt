@@ -11,11 +11,11 @@ use Rattle.algebra.specs.Weighted.{sumOver}
 use Rattle.algebra.specs.Rounding.{nearest}
 use Rattle.algebra.specs.Fraction.{whole, scale, divide}
 use Rattle.integers.specs.Root.{rootOf}
-use Rattle.groups.specs.Weights.{wholeLines, weightsOf, weightedSum}
-use Rattle.groups.specs.Group.{groupValue, groupRefusal, groupAnswer, groupValues}
+use Rattle.groups.specs.Spans.{spanOf, weightsIn, weightedSum}
+use Rattle.groups.specs.Group.{groupValue, groupRefusal, groupAnswer, groupValues, groupRowRefusal}
 use Rattle.rows.specs.Systems.{isSystem}
 use Rattle.rows.specs.Orders.{isOrder}
-use Rattle.groups.specs.Distortion.{sumOfSquares, distortionOf, distortionAnswer}
+use Rattle.distortion.specs.Distortion.{sumOfSquares, distortionOf, distortionAnswer}
 use Rattle.observation.specs.Soundness.{noneAbove, allZero, isSound}
 use Rattle.observation.specs.Book.{smoothedNext, bookStep}
 use Rattle.observation.specs.Smoothing.{smoothedValue}
@@ -66,7 +66,7 @@ group-values-worked :
     (groupValueOf 4 10 40 (replicate 511 (2 ^ 59 + 1)), (4, 77)) ∷
     (groupValueOf 4 10 40 (replicate 512 (2 ^ 59 + 1)), (5, 77)) ∷
     [])
-unfolding Alike groupValueOf lines groupCallRefusal groupCallExit isKind kindWith kinds groupRefusal isSystem isOrder groupValue rootOf largest weightsOf wholeLines weightedSum sumOver tabulate anyOf
+unfolding Alike groupValueOf lines groupCallRefusal groupCallExit isKind kindWith kinds groupRefusal isSystem isOrder groupValue rootOf largest spanOf weightsIn weightedSum sumOver tabulate anyOf
 group-values-worked = refl
 
 -- ---- kifsang_distortion
@@ -132,7 +132,7 @@ rows-worked :
     (rowFor 4 10 (replicate 511 (2 ^ 59 + 1)) (replicate 40 7), (4, replicate 40 7)) ∷
     (rowFor 4 10 (replicate 512 (2 ^ 59 + 1)) (replicate 40 7), (5, replicate 40 7)) ∷
     [])
-unfolding Alike rowFor rowCallRefusal rowCallExit isKind kindWith kinds groupRefusal isSystem isOrder groupValues groupAnswer groupValue rootOf largest weightsOf wholeLines weightedSum sumOver tabulate anyOf
+unfolding Alike rowFor rowCallRefusal rowCallExit isKind kindWith kinds groupRowRefusal groupRefusal isSystem isOrder groupValues groupAnswer groupValue rootOf largest spanOf weightsIn weightedSum sumOver tabulate anyOf
 rows-worked = refl
 
 -- ---- kifsang_fresh_record

@@ -28,7 +28,8 @@ returns-2 c =
     let small : (i : ℕ) → Fits w32 (getD values i 0) = λ i. search needs in
     let present : getD values 0 0 ≡ 0 → ⊥ = c .before .before .before .before .before .if1 .left in
     let sum : c .before .before .sum-of-squares .result ≡ limbsOf wideLimbs (sumOfSquares (drop 1 values)) =
-    c .before .before .sum-of-squares .ensures ∙ ap (λ (l : List ℕ). limbsOf wideLimbs (sumOfSquares l)) (take-all 39 (drop 1 values) (omega (arith, length-drop 1 values))) in
+    c .before .before .sum-of-squares .ensures ∙
+    ap (λ (l : List ℕ). limbsOf wideLimbs (sumOfSquares l)) (take-all 39 (drop 1 values) (omega (arith, length-drop 1 values))) in
     let quotient : c .wide-root .result / getD values 0 0 ≡ distortionOf values =
     rw (c .wide-root .ensures, c .before .scaled .ensures, sum)
     (distortion-quotient values count (λ i. small i .fits) (omega arith)) in

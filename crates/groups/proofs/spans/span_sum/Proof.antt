@@ -4,7 +4,7 @@ use Prim.Native.Nat.{_+_, _-_, _^_, _≤_, _<_}
 use native.Mathlib.Omega.{arith}
 use borrow.Author.Needs.{needs}
 use Rattle.groups.specs.Group.{lineAt}
-use Rattle.groups.proofs.Weights.{linesTotal, linesTotal-suc, linesTotal-le, linesTotal-le-weightedSum, HalfEnds, weightedSum-halfEnds, weightedSum-wholeEnds}
+use Rattle.groups.proofs.Weights.{linesTotal, spanTotal, linesTotal-suc, linesTotal-le, linesTotal-le-weightedSum, HalfEnds, weightedSum-halfEnds, weightedSum-wholeEnds}
 use Rattle.groups.proofs.spans.span_sum.Statement.{statement}
 use Rattle.groups.proofs.spans.span_sum.Tie as tie
 
@@ -44,7 +44,7 @@ loop-again c =
 
 -- after the loop the sum is that of all lines
 all-summed : (c : tie.After-loop Inv-loop μ-loop)
-    → c .before .loop .sum ≡ linesTotal (lineAt (c .before .before .args .lines .now)) (c .before .before .args .span .first) (c .before .before .args .span .count)
+    → c .before .loop .sum ≡ spanTotal (lineAt (c .before .before .args .lines .now)) (c .before .before .args .span)
 all-summed c =
     let end : c .before .loop .i ≡ c .before .before .args .span .count = omega arith in
     rw end at (c .before .loop .inv .1)
@@ -54,7 +54,7 @@ two-lines : (c : tie.Then1 Inv-loop μ-loop) → 2 ≤ c .before .before .before
 two-lines c = c .before .before .before .pre .1 .0 (c .if1 .taken)
 
 half-ends : (c : tie.Then1 Inv-loop μ-loop)
-    → HalfEnds (lineAt (c .before .before .before .args .lines .now)) (c .before .before .before .args .span) (c .before .before .before .pre .1 .0)
+    → let start = c .before .before .before in HalfEnds (lineAt (start .args .lines .now)) (start .args .span) (start .pre .1 .0)
 half-ends c = weightedSum-halfEnds _ _ _ (c .if1 .taken)
 
 sub-result : tie.Need-sub-result Inv-loop μ-loop
@@ -72,7 +72,8 @@ add-result-2 c = omega (arith, returns c, c .before .before .before .before .bef
 returns-2 : tie.Need-returns-2 Inv-loop μ-loop
 returns-2 c =
     let start = c .before .before .before in
-    omega (arith, all-summed (c .before), weightedSum-wholeEnds (lineAt (start .args .lines .now)) (start .args .span) (start .pre .1 .0) (c .if1 .left))
+    let f = lineAt (start .args .lines .now) in
+    omega (arith, all-summed (c .before), weightedSum-wholeEnds f (start .args .span) (start .pre .1 .0) (c .if1 .left))
 
 add-result-3 : tie.Need-add-result-3 Inv-loop μ-loop
 add-result-3 c = omega (arith, returns-2 c, c .before .before .before .pre .1 .1)

@@ -3,7 +3,7 @@ use mathlib.Core.Path.{_≡_, sym, _∙_}
 use borrow.Author.Needs.{needs}
 use Rattle.rows.specs.Orders.{orderCount}
 use Rattle.rows.proofs.Rows.{firstValues-whole}
-use Rattle.groups.specs.Distortion.{distortionOf, distortionAnswer}
+use Rattle.distortion.specs.Distortion.{distortionOf, distortionAnswer}
 use Rattle.kifsang.specs.GroupCalls.{distortionCallRefusal, distortionCallExit}
 use Rattle.kifsang.proofs.Handed.{own-refused, count-passed, handed-answer}
 use Rattle.kifsang.proofs.group_calls.kifsang_distortion.Statement.{statement}

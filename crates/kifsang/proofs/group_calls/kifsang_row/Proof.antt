@@ -11,8 +11,9 @@ use Rattle.refusals.specs.Answers.{firstFault}
 use Rattle.refusals.proofs.Answers.{no-fault}
 use Rattle.rows.specs.Orders.{orderCount}
 use Rattle.rows.proofs.Rows.{firstValues-whole}
-use Rattle.groups.specs.Group.{groupValues, groupValuesAnswer}
+use Rattle.groups.specs.Group.{groupValues, groupRowAnswer}
 use Rattle.groups.specs.declared.Kind.{Kind}
+use Rattle.groups.proofs.GroupSum.{groupRowAnswer-values}
 use Rattle.kifsang.specs.Refusals.{unknownKind, wordCountCheck}
 use Rattle.kifsang.specs.Kinds.{kindWith, kindCheck}
 use Rattle.kifsang.specs.GroupCalls.{rowCallRefusal, rowCallExit}
@@ -46,17 +47,17 @@ hand-over-row-requires c κs =
     count-passed orderCount noRefusal (a .values .now) (passed .1) .0
 
 returns-2 : tie.Need-returns-2
-unfolding rowCallRefusal rowCallExit groupValuesAnswer
+unfolding rowCallRefusal rowCallExit groupRowAnswer
 returns-2 c =
     let at-hand = c .before .before in
     let at-call = at-hand .before .before .before .before in
     let at-kind = at-call .before in
     let at-own = at-kind .before in
     let a = at-own .before .before .before .before .before .before .args in
-    let answered : at-call .group-values .result ≡ groupValuesAnswer (kindWith (a .kind)) (a .system) (a .lines .now) =
-    rw (← at-kind .kind-with .ensures) (at-call .group-values .ensures) in
+    let answered : at-call .group-row .result ≡ groupRowAnswer (kindWith (a .kind)) (a .system) (a .lines .now) =
+    rw (← at-kind .kind-with .ensures) (at-call .group-row .ensures) in
     let whole = firstValues-whole (groupValues (kindWith (a .kind)) (a .system) (a .lines .now)) (groupValues-length _ _ _) in
-    rw (sym (own (at-own .before)) ∙ at-own .if1 .left) (rw (answered, whole) at (at-hand .hand-over-row .ensures))
+    rw (sym (own (at-own .before)) ∙ at-own .if1 .left) (rw (answered, groupRowAnswer-values, whole) at (at-hand .hand-over-row .ensures))
 
 pub kifsang-row-spec : {M : Type 1} → statement M
 kifsang-row-spec =

@@ -1,15 +1,15 @@
 -- `recordings::blocks::take_window` meets its contract.
 use mathlib.Core.Path.{refl, _∙_}
 use borrow.Author.Needs.{needs}
-use Rattle.groups.specs.Group.{groupValuesAnswer}
-use Rattle.recordings.specs.Output.{rowOf}
+use Rattle.groups.proofs.GroupSum.{groupRowAnswer-values}
+use Rattle.groups.specs.Group.{windowRow}
 use Rattle.recordings.specs.Blocks.{windowTaken}
 use Rattle.recordings.proofs.WindowLines.{spectrumExit-window}
 use Rattle.recordings.proofs.blocks.take_window.Statement.{statement}
 use Rattle.recordings.proofs.blocks.take_window.Tie as tie
 
 returns : tie.Need-returns
-unfolding windowTaken rowOf groupValuesAnswer
+unfolding windowTaken windowRow
 returns c =
     let at-added = c .before in
     let at-subgroups = at-added .before .before .before in
@@ -18,7 +18,7 @@ returns c =
     let start = at-lines .before .before in
     let samples = start .args .samples .now in
     let lines = at-lines .spectrum .ensures .1 ∙ spectrumExit-window samples _ (start .pre .0) refl (start .pre .1) in
-    rw (at-added .add-row .ensures, at-subgroups .group-values2 .ensures, at-groups .group-values .ensures, lines)
+    rw (at-added .add-row .ensures, at-subgroups .group-row2 .ensures, at-groups .group-row .ensures, lines, groupRowAnswer-values, groupRowAnswer-values)
 
 pub take-window-spec : {M : Type 1} → statement M
 take-window-spec =
