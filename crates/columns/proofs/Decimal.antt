@@ -23,7 +23,8 @@ within-same zero k n g h = absurd (not-suc-le-zero g)
 within-same (suc j) zero n g h = absurd (not-suc-le-zero h)
 within-same (suc j) (suc k) n g h = by-test (decLt n 10) (within-same j k (n / 10))
   where
-    by-test : Dec (n < 10) → (n / 10 < j → n / 10 < k → decimalWithin j (n / 10) ≡ decimalWithin k (n / 10)) → decimalWithin (suc j) n ≡ decimalWithin (suc k) n
+    by-test : Dec (n < 10) → (n / 10 < j → n / 10 < k → decimalWithin j (n / 10) ≡ decimalWithin k (n / 10))
+        → decimalWithin (suc j) n ≡ decimalWithin (suc k) n
     by-test (yes below) _ = rw (lt-ltb n 10 below)
     by-test (no above) same =
         let ten : 10 ≤ n = omega arith in

@@ -21,5 +21,6 @@ module _ (refusal : ℕ) (small : refusal < 10 ^ refusalWidth) where
   unfolding refusalLine bytesOf
   refusalLine-length = simp (length-append, length-of-text refusalWidth (pos refusal) refusal-fits) (omega arith)
 
-  pub refusalLineExit-accepted : (buffer : List ℕ) → length buffer ≡ refusalLineLength → refusalLineExit buffer refusal ≡ refusalLine refusal
+  pub refusalLineExit-accepted : (buffer : List ℕ) → length buffer ≡ refusalLineLength
+      → refusalLineExit buffer refusal ≡ refusalLine refusal
   refusalLineExit-accepted buffer long = rw (eq-eqb (length buffer) refusalLineLength long, refusal-fits)

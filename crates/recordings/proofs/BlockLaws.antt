@@ -25,10 +25,12 @@ unfolding blockLines textLineCount
 blockLines-short block h = rw (take-all windowBytes block (omega arith))
 
 -- so many lines begin in the block, and a window has no more
-pub blockLines-fit : (block : List ℕ) → (blockLines block ≤ windowLength) × (textLineBytes * blockLines block < length block + textLineBytes)
+pub blockLines-fit : (block : List ℕ)
+    → (blockLines block ≤ windowLength) × (textLineBytes * blockLines block < length block + textLineBytes)
 blockLines-fit block = by-length (decLe windowBytes (length block))
   where
-    by-length : Dec (windowBytes ≤ length block) → (blockLines block ≤ windowLength) × (textLineBytes * blockLines block < length block + textLineBytes)
+    by-length : Dec (windowBytes ≤ length block)
+        → (blockLines block ≤ windowLength) × (textLineBytes * blockLines block < length block + textLineBytes)
     by-length (yes h) = rw (blockLines-whole block h) (omega arith, omega arith)
     by-length (no f) = let h : length block < windowBytes = omega arith in rw (blockLines-short block h) (omega arith, omega arith)
 
@@ -51,7 +53,8 @@ module _ (reading : Reading) (block : List ℕ) where
     blockOf-empty e = rw (eq-eqb (reading .refusal) noRefusal goes-on, eq-eqb (length block) 0 e)
 
     module _ (some : length block ≡ 0 → ⊥) where
-      pub blockOf-text-line : (textLinesRefusal block (blockLines block) ≡ noRefusal → ⊥) → blockOf reading block ≡ refusedWith (textLinesRefusal block (blockLines block)) reading
+      pub blockOf-text-line : (textLinesRefusal block (blockLines block) ≡ noRefusal → ⊥)
+          → blockOf reading block ≡ refusedWith (textLinesRefusal block (blockLines block)) reading
       unfolding blockOf blockRefusal
       blockOf-text-line f =
           let first = textLinesRefusal block (blockLines block) in

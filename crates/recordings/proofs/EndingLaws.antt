@@ -25,7 +25,8 @@ module _ (reading : Reading) where
   unfolding finishRefusal
   finishRefusal-unknown h = rw (lt-ltb largestRefusal (reading .refusal) h)
 
-  pub finishRefusal-refused : reading .refusal ≤ largestRefusal → (reading .refusal ≡ noRefusal → ⊥) → finishRefusal reading ≡ reading .refusal
+  pub finishRefusal-refused : reading .refusal ≤ largestRefusal → (reading .refusal ≡ noRefusal → ⊥)
+      → finishRefusal reading ≡ reading .refusal
   unfolding finishRefusal
   finishRefusal-refused h f = rw (le-ltb largestRefusal (reading .refusal) h, ne-eqb (reading .refusal) noRefusal f)
 
@@ -33,11 +34,13 @@ module _ (reading : Reading) where
   unfolding finishRefusal
   finishRefusal-unsound e s = rw (e, s)
 
-  pub finishRefusal-no-window : reading .refusal ≡ noRefusal → isSound (reading .observation) ≡ true → reading .observation .windows ≡ 0 → finishRefusal reading ≡ noWindow
+  pub finishRefusal-no-window : reading .refusal ≡ noRefusal → isSound (reading .observation) ≡ true
+      → reading .observation .windows ≡ 0 → finishRefusal reading ≡ noWindow
   unfolding finishRefusal
   finishRefusal-no-window e s z = rw (e, s, z)
 
-  pub finishRefusal-accepted : reading .refusal ≡ noRefusal → isSound (reading .observation) ≡ true → (reading .observation .windows ≡ 0 → ⊥) → finishRefusal reading ≡ noRefusal
+  pub finishRefusal-accepted : reading .refusal ≡ noRefusal → isSound (reading .observation) ≡ true
+      → (reading .observation .windows ≡ 0 → ⊥) → finishRefusal reading ≡ noRefusal
   unfolding finishRefusal
   finishRefusal-accepted e s f = rw (e, s, ne-eqb (reading .observation .windows) 0 f)
 
@@ -68,11 +71,13 @@ module _ (reading : Reading) where
       let passed = no-fault (ltb largestRefusal (reading .refusal)) unsoundRecord ended (omega arith) e .1 in
       not-false (isSound (reading .observation)) (no-fault unsound unsoundRecord none (omega arith) (no-earlier (reading .refusal) sound passed .1) .0)
 
-  pub outputOf-refused : (refusal : ℕ) → finishRefusal reading ≡ refusal → (refusal ≡ noRefusal → ⊥) → outputOf reading ≡ refusalLine refusal
+  pub outputOf-refused : (refusal : ℕ) → finishRefusal reading ≡ refusal → (refusal ≡ noRefusal → ⊥)
+      → outputOf reading ≡ refusalLine refusal
   unfolding outputOf
   outputOf-refused refusal e f = rw (e, ne-eqb refusal noRefusal f)
 
-  pub outputOf-accepted : finishRefusal reading ≡ noRefusal → outputOf reading ≡ listingText (reading .group) (reading .subgroup) (reading .observation .smoothed)
+  pub outputOf-accepted : finishRefusal reading ≡ noRefusal
+      → outputOf reading ≡ listingText (reading .group) (reading .subgroup) (reading .observation .smoothed)
   unfolding outputOf
   outputOf-accepted e = rw e
 
@@ -89,7 +94,9 @@ module _ (reading : Reading) (buffer : List ℕ) where
   unfolding listingRefusal outputExit
   written-not h = let e = lt-ltb (length buffer) listingRoom h in (rw e, rw e)
 
-  pub written-refusal : (last : List ℕ) → listingRoom ≤ length buffer → (finishRefusal reading ≡ noRefusal → ⊥) → last ≡ refusalLine (finishRefusal reading) → Written noRefusal refusalLineLength (last ++ drop refusalLineLength buffer)
+  pub written-refusal : (last : List ℕ) → listingRoom ≤ length buffer → (finishRefusal reading ≡ noRefusal → ⊥)
+      → last ≡ refusalLine (finishRefusal reading)
+      → Written noRefusal refusalLineLength (last ++ drop refusalLineLength buffer)
   unfolding listingRefusal outputExit
   written-refusal last h f same =
       let e = le-ltb (length buffer) listingRoom h in
@@ -97,15 +104,20 @@ module _ (reading : Reading) (buffer : List ℕ) where
       let long = refusalLine-length (finishRefusal reading) (omega (arith, finishRefusal-le reading)) in
       (rw (e, text, long), rw (e, text, long, same))
 
-  pub answer-listing : finishRefusal reading ≡ noRefusal → answer (listingRefusal buffer) (length (listingText (reading .group) (reading .subgroup) (reading .observation .smoothed))) ≡ answer (listingRefusal buffer) (length (outputOf reading))
+  pub answer-listing : finishRefusal reading ≡ noRefusal
+      → answer (listingRefusal buffer) (length (listingText (reading .group) (reading .subgroup) (reading .observation .smoothed)))
+      ≡ answer (listingRefusal buffer) (length (outputOf reading))
   answer-listing e = ap (λ (text : List ℕ). answer (listingRefusal buffer) (length text)) (sym (outputOf-accepted reading e))
 
-  pub written-listing : finishRefusal reading ≡ noRefusal → listingExit buffer (reading .group) (reading .subgroup) (reading .observation .smoothed) ≡ outputExit reading buffer
+  pub written-listing : finishRefusal reading ≡ noRefusal
+      → listingExit buffer (reading .group) (reading .subgroup) (reading .observation .smoothed) ≡ outputExit reading buffer
   unfolding listingExit outputExit
   written-listing e = rw (outputOf-accepted reading e)
 
 -- the bytes that are written lie in the buffer
-pub written-count-le : (reading : Reading) (buffer after : List ℕ) (answered : Answer) → answered ≡ answer (listingRefusal buffer) (length (outputOf reading)) → after ≡ outputExit reading buffer → length after ≡ length buffer → answered .value ≤ length buffer
+pub written-count-le : (reading : Reading) (buffer after : List ℕ) (answered : Answer)
+    → answered ≡ answer (listingRefusal buffer) (length (outputOf reading)) → after ≡ outputExit reading buffer
+    → length after ≡ length buffer → answered .value ≤ length buffer
 unfolding listingRefusal outputExit
 written-count-le reading buffer after answered e holds kept = rw e (by-room (decLt (length buffer) listingRoom))
   where

@@ -28,29 +28,37 @@ unfolding isSystem
 zero-no-system = refl
 
 -- the refusal of the first line
-pub textLineRefusal-first : (line : List ℕ) → textLineRefusal line 0 ≡ cond (isNone (textLineNumber (textLineAt line 0))) notAColumn (cond (noSystem (numberAt line 0)) unknownSystem noRefusal)
+pub textLineRefusal-first : (line : List ℕ)
+    → textLineRefusal line 0
+    ≡ cond (isNone (textLineNumber (textLineAt line 0))) notAColumn (cond (noSystem (numberAt line 0)) unknownSystem noRefusal)
 unfolding textLineRefusal numberRefusal numberAt
 textLineRefusal-first line = refl
 
 module _ (line : List ℕ) where
-  pub beginOf-no-number : textLineNumber (textLineAt line 0) ≡ none → readingOfNone notAColumn (freshAnswer (systemWord (pos 0)) .observation) ≡ beginOf line
+  pub beginOf-no-number : textLineNumber (textLineAt line 0) ≡ none
+      → readingOfNone notAColumn (freshAnswer (systemWord (pos 0)) .observation) ≡ beginOf line
   unfolding beginOf readingOfNone textLineRefusal numberRefusal isNone systemWord freshAnswer freshRefusal isSystem
   beginOf-no-number e = rw e
 
-  pub beginOf-number : (z : ℤ) → textLineNumber (textLineAt line 0) ≡ some z → readingOfNone (freshAnswer (systemWord z) .refusal) (freshAnswer (systemWord z) .observation) ≡ beginOf line
+  pub beginOf-number : (z : ℤ) → textLineNumber (textLineAt line 0) ≡ some z
+      → readingOfNone (freshAnswer (systemWord z) .refusal) (freshAnswer (systemWord z) .observation) ≡ beginOf line
   unfolding beginOf readingOfNone textLineRefusal numberRefusal isNone systemWord numberAt numberOr0 systemIn noSystem freshAnswer freshRefusal
   beginOf-number (pos n) e = by-size (decLt largestSystem n)
     where
-      by-size : Dec (largestSystem < n) → readingOfNone (freshAnswer (systemWord (pos n)) .refusal) (freshAnswer (systemWord (pos n)) .observation) ≡ beginOf line
+      by-size : Dec (largestSystem < n)
+          → readingOfNone (freshAnswer (systemWord (pos n)) .refusal) (freshAnswer (systemWord (pos n)) .observation) ≡ beginOf line
       by-size (yes h) = rw (e, lt-ltb largestSystem n h, no-large-system n h, zero-no-system)
       by-size (no f) = rw (e, le-ltb largestSystem n (omega arith))
   beginOf-number (negsuc n) e = rw (e, zero-no-system)
 
   -- by what the line was read as
-  pub beginOf-refused : (o : Option ℤ) → textLineNumber (textLineAt line 0) ≡ o → (readingOf o .refusal ≡ noRefusal → ⊥) → readingOfNone (readingOf o .refusal) (freshAnswer (systemWord (readingOf o .value)) .observation) ≡ beginOf line
+  pub beginOf-refused : (o : Option ℤ) → textLineNumber (textLineAt line 0) ≡ o → (readingOf o .refusal ≡ noRefusal → ⊥)
+      → readingOfNone (readingOf o .refusal) (freshAnswer (systemWord (readingOf o .value)) .observation) ≡ beginOf line
   beginOf-refused none e f = beginOf-no-number e
   beginOf-refused (some z) e f = absurd (f refl)
 
-  pub beginOf-accepted : (o : Option ℤ) → textLineNumber (textLineAt line 0) ≡ o → readingOf o .refusal ≡ noRefusal → readingOfNone (freshAnswer (systemWord (readingOf o .value)) .refusal) (freshAnswer (systemWord (readingOf o .value)) .observation) ≡ beginOf line
+  pub beginOf-accepted : (o : Option ℤ) → textLineNumber (textLineAt line 0) ≡ o → readingOf o .refusal ≡ noRefusal
+      → readingOfNone (freshAnswer (systemWord (readingOf o .value)) .refusal) (freshAnswer (systemWord (readingOf o .value)) .observation)
+      ≡ beginOf line
   beginOf-accepted none e z = absurd (omega arith)
   beginOf-accepted (some z) e h = beginOf-number z e

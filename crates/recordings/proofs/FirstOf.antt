@@ -42,7 +42,8 @@ module _ (refusal : ℕ → ℕ) where
   firstOf-none-at zero i e h = absurd (not-suc-le-zero h)
   firstOf-none-at (suc n) i e h = by-first (firstOf-none-at n i) (ℕ-discrete (firstOf refusal n) noRefusal)
     where
-      by-first : (firstOf refusal n ≡ noRefusal → i < n → refusal i ≡ noRefusal) → Dec (firstOf refusal n ≡ noRefusal) → refusal i ≡ noRefusal
+      by-first : (firstOf refusal n ≡ noRefusal → i < n → refusal i ≡ noRefusal) → Dec (firstOf refusal n ≡ noRefusal)
+          → refusal i ≡ noRefusal
       by-first earlier (yes z) =
           ⊎-elim
           (λ (s : i ≡ n). rw s (rw (eq-eqb (firstOf refusal n) noRefusal z) at e))
@@ -84,7 +85,8 @@ firstOf-with-last refusal other n further h e =
 
 -- ---- checks after a refusal
 
-pub no-earlier : (refusal rest : ℕ) → cond (not (eqb refusal noRefusal)) refusal rest ≡ noRefusal → (refusal ≡ noRefusal) × (rest ≡ noRefusal)
+pub no-earlier : (refusal rest : ℕ) → cond (not (eqb refusal noRefusal)) refusal rest ≡ noRefusal
+    → (refusal ≡ noRefusal) × (rest ≡ noRefusal)
 no-earlier zero rest e = (refl, e)
 no-earlier (suc n) rest e = absurd (omega (arith, rw (ne-eqb (suc n) noRefusal (λ z. omega arith)) at e))
 

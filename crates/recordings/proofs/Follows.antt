@@ -29,7 +29,9 @@ use Rattle.recordings.proofs.Holds.{GoesOn, Holds, begins}
 use Rattle.recordings.proofs.WindowHolds.{steps}
 
 -- a reading that a line ended, and a text with that line's refusal
-refused-output : (reading : Reading) (text : List ℕ) → reading .refusal ≤ largestRefusal → (reading .refusal ≡ noRefusal → ⊥) → refusalBefore text (textLineCount text) ≡ reading .refusal → outputOf reading ≡ harmlistOutput text
+refused-output : (reading : Reading) (text : List ℕ) → reading .refusal ≤ largestRefusal
+    → (reading .refusal ≡ noRefusal → ⊥) → refusalBefore text (textLineCount text) ≡ reading .refusal
+    → outputOf reading ≡ harmlistOutput text
 refused-output reading text le f same =
     outputOf-refused reading (reading .refusal) (finishRefusal-refused reading le f) f
     ∙ sym (harmlistOutput-text-line text (reading .refusal) same f)
@@ -103,8 +105,8 @@ module _ (p : List ℕ) (w : ℕ) (reading : Reading) (h : Holds p w reading) wh
       none-empty : length block ≡ 0 → ⊥
       none-empty z = omega arith
 
-      faults-short : refusalBefore (p ++ block) (textLineCount (p ++ block)) ≡ textLinesRefusal block lines-left
-      faults-short =
+      refusal-short : refusalBefore (p ++ block) (textLineCount (p ++ block)) ≡ textLinesRefusal block lines-left
+      refusal-short =
           rw count-short (refusalBefore-short p block w (h .long) (sym (h .refusal-is) ∙ e) lines-left (lines-left-bounds .1) short)
 
       by-lines-left : Dec (textLinesRefusal block lines-left ≡ noRefusal) → outputOf (blockOf reading block) ≡ harmlistOutput (p ++ block)
@@ -114,7 +116,7 @@ module _ (p : List ℕ) (w : ℕ) (reading : Reading) (h : Holds p w reading) wh
           let end : endRefusal (textLineCount (p ++ block)) ≡ shortWindow = rw count-short (endRefusal-short w lines-left (lines-left-bounds .0) few) in
           ap outputOf same
           ∙ outputOf-refused (refusedWith shortWindow reading) shortWindow (finishRefusal-refused (refusedWith shortWindow reading) (omega arith) is-short) is-short
-          ∙ sym (harmlistOutput-at-end (p ++ block) (faults-short ∙ none) shortWindow end is-short)
+          ∙ sym (harmlistOutput-at-end (p ++ block) (refusal-short ∙ none) shortWindow end is-short)
         where
           is-short : shortWindow ≡ noRefusal → ⊥
           is-short z = omega arith
@@ -122,7 +124,7 @@ module _ (p : List ℕ) (w : ℕ) (reading : Reading) (h : Holds p w reading) wh
           let same : blockOf reading block ≡ refusedWith (textLinesRefusal block lines-left) reading =
           rw lines-short at (blockOf-text-line reading block e none-empty (λ z. f (rw lines-short at z))) in
           ap outputOf same
-          ∙ refused-output (refusedWith (textLinesRefusal block lines-left) reading) (p ++ block) (textLinesRefusal-le block lines-left) f faults-short
+          ∙ refused-output (refusedWith (textLinesRefusal block lines-left) reading) (p ++ block) (textLinesRefusal-le block lines-left) f refusal-short
 
     ends-short : outputOf (blockOf reading block) ≡ harmlistOutput (p ++ block)
     ends-short = by-refusal (ℕ-discrete (reading .refusal) noRefusal)
@@ -147,7 +149,8 @@ stays-at-none reading block z = by-refusal (ℕ-discrete (reading .refusal) noRe
     by-refusal (yes e) = blockOf-empty reading block e z
     by-refusal (no f) = blockOf-refused reading block f
 
-last-block : (p block : List ℕ) (w : ℕ) (reading : Reading) → Holds p w reading → length block ≤ windowBytes → outputOf (blockOf reading block) ≡ harmlistOutput (p ++ block)
+last-block : (p block : List ℕ) (w : ℕ) (reading : Reading) → Holds p w reading → length block ≤ windowBytes
+    → outputOf (blockOf reading block) ≡ harmlistOutput (p ++ block)
 last-block p block w reading h le = by-length (ℕ-discrete (length block) 0) (ℕ-discrete (length block) windowBytes)
   where
     by-length : Dec (length block ≡ 0) → Dec (length block ≡ windowBytes) → outputOf (blockOf reading block) ≡ harmlistOutput (p ++ block)
@@ -159,7 +162,8 @@ last-block p block w reading h le = by-length (ℕ-discrete (length block) 0) (�
         ends (p ++ block) (w + 1) (blockOf reading block) (steps p block w reading h whole)
     by-length (no f) (no g) = ends-short p w reading h block (omega arith) (omega arith)
 
-follows : (blocks : List (List ℕ)) (p : List ℕ) (w : ℕ) (reading : Reading) → Holds p w reading → WholeButLast blocks → outputOf (readingAfter reading blocks) ≡ harmlistOutput (p ++ joined blocks)
+follows : (blocks : List (List ℕ)) (p : List ℕ) (w : ℕ) (reading : Reading) → Holds p w reading → WholeButLast blocks
+    → outputOf (readingAfter reading blocks) ≡ harmlistOutput (p ++ joined blocks)
 unfolding readingAfter joined WholeButLast
 follows [] p w reading h cut = ends p w reading h ∙ ap harmlistOutput (sym (append-nil p))
 follows (block ∷ []) p w reading h cut =
@@ -176,11 +180,11 @@ textLineRefusal-short-first first h = textLineRefusal-first first ∙ rw (textLi
 short-first : (first : List ℕ) → length first < textLineBytes → outputOf (beginOf first) ≡ harmlistOutput first
 unfolding beginOf textLineCount refusalBefore firstOf endRefusal
 short-first first h =
-    outputOf-refused (beginOf first) notAColumn (finishRefusal-refused (beginOf first) (rw fault (omega arith)) (rw fault no-line) ∙ fault) no-line
+    outputOf-refused (beginOf first) notAColumn (finishRefusal-refused (beginOf first) (rw refused (omega arith)) (rw refused no-line) ∙ refused) no-line
     ∙ sym (by-length (ℕ-discrete (length first) 0))
   where
-    fault : textLineRefusal first 0 ≡ notAColumn
-    fault = textLineRefusal-short-first first h
+    refused : textLineRefusal first 0 ≡ notAColumn
+    refused = textLineRefusal-short-first first h
 
     no-line : notAColumn ≡ noRefusal → ⊥
     no-line z = omega arith
@@ -191,7 +195,7 @@ short-first first h =
         harmlistOutput-at-end first (rw count) notAColumn (rw count) no-line
     by-length (no f) =
         let count : textLineCount first ≡ 1 = omega arith in
-        harmlistOutput-text-line first notAColumn (rw count fault) no-line
+        harmlistOutput-text-line first notAColumn (rw count refused) no-line
 
 pub follows-definition : FollowsDefinition
 unfolding readingAfter joined
@@ -207,7 +211,8 @@ unfolding readingAfter
 refused-stays reading [] f = refl
 refused-stays reading (block ∷ blocks) f = rw (blockOf-refused reading block f) (refused-stays reading blocks f)
 
-pub readingAfter-append : (reading : Reading) (blocks more : List (List ℕ)) → readingAfter reading (blocks ++ more) ≡ readingAfter (readingAfter reading blocks) more
+pub readingAfter-append : (reading : Reading) (blocks more : List (List ℕ))
+    → readingAfter reading (blocks ++ more) ≡ readingAfter (readingAfter reading blocks) more
 unfolding readingAfter
 readingAfter-append reading [] more = refl
 readingAfter-append reading (block ∷ blocks) more = readingAfter-append (blockOf reading block) blocks more

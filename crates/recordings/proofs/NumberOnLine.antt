@@ -33,7 +33,8 @@ module _ (text : List ℕ) (i : ℕ) where
     last-byte : getD (take textLineBytes rest) columnWidth 0 ≡ getD text (textLineBytes * i + columnWidth) 0
     last-byte = getD-take textLineBytes rest columnWidth 0 (omega arith) ∙ getD-drop (textLineBytes * i) text columnWidth 0
 
-    pub textLineNumber-no-newline : (getD text (textLineBytes * i + columnWidth) 0 ≡ newline → ⊥) → textLineNumber (textLineAt text i) ≡ none
+    pub textLineNumber-no-newline : (getD text (textLineBytes * i + columnWidth) 0 ≡ newline → ⊥)
+        → textLineNumber (textLineAt text i) ≡ none
     unfolding textLineNumber textLineAt
     textLineNumber-no-newline f =
         rw (
@@ -41,7 +42,8 @@ module _ (text : List ℕ) (i : ℕ) where
           ne-eqb (getD (take textLineBytes rest) columnWidth 0) newline (λ e. f (sym last-byte ∙ e)),
         )
 
-    pub textLineNumber-column : getD text (textLineBytes * i + columnWidth) 0 ≡ newline → textLineNumber (textLineAt text i) ≡ columnNumber (take columnWidth rest)
+    pub textLineNumber-column : getD text (textLineBytes * i + columnWidth) 0 ≡ newline
+        → textLineNumber (textLineAt text i) ≡ columnNumber (take columnWidth rest)
     unfolding textLineNumber textLineAt
     textLineNumber-column e =
         rw (
@@ -51,7 +53,8 @@ module _ (text : List ℕ) (i : ℕ) where
         )
 
     -- what the call that reads a column answers for the line's column
-    pub columnReadAnswer-text-line : columnReadAnswer (take (textLineBytes * i + columnWidth - textLineBytes * i) rest) ≡ readingOf (columnNumber (take columnWidth rest))
+    pub columnReadAnswer-text-line : columnReadAnswer (take (textLineBytes * i + columnWidth - textLineBytes * i) rest)
+        ≡ readingOf (columnNumber (take columnWidth rest))
     unfolding columnReadAnswer
     columnReadAnswer-text-line =
         let width : textLineBytes * i + columnWidth - textLineBytes * i ≡ columnWidth = omega arith in

@@ -13,13 +13,15 @@ use Rattle.recordings.specs.Output.{listingFor, harmlistOutput}
 
 module _ (text : List ℕ) where
   -- the refusal of a line
-  pub harmlistOutput-text-line : (refusal : ℕ) → refusalBefore text (textLineCount text) ≡ refusal → (refusal ≡ noRefusal → ⊥) → harmlistOutput text ≡ refusalLine refusal
+  pub harmlistOutput-text-line : (refusal : ℕ) → refusalBefore text (textLineCount text) ≡ refusal
+      → (refusal ≡ noRefusal → ⊥) → harmlistOutput text ≡ refusalLine refusal
   unfolding harmlistOutput inputRefusal
   harmlistOutput-text-line refusal e f = rw (e, ne-eqb refusal noRefusal f, ne-eqb refusal noRefusal f)
 
   module _ (none : refusalBefore text (textLineCount text) ≡ noRefusal) where
     -- the refusal at the end
-    pub harmlistOutput-at-end : (refusal : ℕ) → endRefusal (textLineCount text) ≡ refusal → (refusal ≡ noRefusal → ⊥) → harmlistOutput text ≡ refusalLine refusal
+    pub harmlistOutput-at-end : (refusal : ℕ) → endRefusal (textLineCount text) ≡ refusal → (refusal ≡ noRefusal → ⊥)
+        → harmlistOutput text ≡ refusalLine refusal
     unfolding harmlistOutput inputRefusal
     harmlistOutput-at-end refusal e f = rw (none, e, ne-eqb refusal noRefusal f)
 

@@ -25,7 +25,8 @@ unfolding outOfRange
 zero-in-range = refl
 
 module _ (line : List ℕ) where
-  pub sampleOn-out : (o : Option ℤ) → textLineNumber line ≡ o → outOfRange (readingOf o .value) ≡ true → record { refusal = sampleOutOfRange; value = pos 0 } ≡ sampleOn line
+  pub sampleOn-out : (o : Option ℤ) → textLineNumber line ≡ o → outOfRange (readingOf o .value) ≡ true
+      → record { refusal = sampleOutOfRange; value = pos 0 } ≡ sampleOn line
   unfolding sampleOn sampleRefusal isNone numberOr0
   sampleOn-out none e h = absurd (true≢false (sym h ∙ zero-in-range))
   sampleOn-out (some z) e h = rw (e, h)

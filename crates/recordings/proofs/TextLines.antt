@@ -89,7 +89,9 @@ module _ (p q : List ℕ) where
 
 -- ---- the refusal of a sample's line
 
-checks-in-order : (a b : Bool) (further : ℕ) → cond a notAColumn (cond b sampleOutOfRange further) ≡ cond (eqb (cond a notAColumn (cond b sampleOutOfRange noRefusal)) noRefusal) further (cond a notAColumn (cond b sampleOutOfRange noRefusal))
+checks-in-order : (a b : Bool) (further : ℕ)
+    → cond a notAColumn (cond b sampleOutOfRange further)
+    ≡ cond (eqb (cond a notAColumn (cond b sampleOutOfRange noRefusal)) noRefusal) further (cond a notAColumn (cond b sampleOutOfRange noRefusal))
 checks-in-order true b further = refl
 checks-in-order false true further = refl
 checks-in-order false false further = refl
@@ -98,7 +100,8 @@ checks-in-order false false further = refl
 abbrev pub fullAt : ℕ → ℕ
 fullAt i = cond (eqb i (windowLength * (mostWindows + 1))) recordFull noRefusal
 
-pub textLineRefusal-sample : (t : List ℕ) (i : ℕ) → (i ≡ 0 → ⊥) → textLineRefusal t i ≡ cond (eqb (sampleRefusal (textLineAt t i)) noRefusal) (fullAt i) (sampleRefusal (textLineAt t i))
+pub textLineRefusal-sample : (t : List ℕ) (i : ℕ) → (i ≡ 0 → ⊥)
+    → textLineRefusal t i ≡ cond (eqb (sampleRefusal (textLineAt t i)) noRefusal) (fullAt i) (sampleRefusal (textLineAt t i))
 unfolding textLineRefusal numberRefusal sampleRefusal
 textLineRefusal-sample t i f =
     rw (ne-eqb i 0 f)

@@ -18,7 +18,8 @@ use Rattle.groups.specs.Group.{windowRow}
 use Rattle.recordings.specs.Blocks.{windowBytes, textLinesRefusal, blockLines, samplesOf, windowTaken, blockOf}
 use Rattle.recordings.proofs.BlockLaws.{blockOf-refused, blockOf-text-line, blockOf-short, blockOf-whole}
 
-pub addRowAnswer-accepted : (o : Observation) (row : Row) → addRowRefusal o row ≡ noRefusal → addRowAnswer o row .observation ≡ withRow o row
+pub addRowAnswer-accepted : (o : Observation) (row : Row) → addRowRefusal o row ≡ noRefusal
+    → addRowAnswer o row .observation ≡ withRow o row
 unfolding addRowAnswer
 addRowAnswer-accepted o row e = rw e
 

@@ -33,7 +33,7 @@ use Rattle.recordings.proofs.TextLines.{linesTo, fullAt, systemIn-front
 use Rattle.recordings.proofs.WindowRefusals.{refusalBefore-stays, refusalBefore-window}
 use Rattle.recordings.proofs.Holds.{GoesOn, Holds}
 
--- the values of a row that is worked out are numbers of 32 bits
+-- the values of a window's row are numbers of 32 bits
 windowRow-fits : (kind : Kind) (system : ℕ) (window : List ℤ) → ValuesFit (windowRow kind system window)
 unfolding ValuesFit windowRow
 windowRow-fits kind system window i = groupValues-le kind system (linesOf window) i
@@ -43,7 +43,8 @@ unfolding windowRow
 windowRow-system kind system window = refl
 
 -- a sound record refuses a row of its own system only where it is full
-addRowRefusal-own-row : (o : Observation) (row : Row) → isSound o ≡ true → row .system ≡ o .system → addRowRefusal o row ≡ cond (leb mostWindows (o .windows)) recordFull noRefusal
+addRowRefusal-own-row : (o : Observation) (row : Row) → isSound o ≡ true → row .system ≡ o .system
+    → addRowRefusal o row ≡ cond (leb mostWindows (o .windows)) recordFull noRefusal
 unfolding addRowRefusal rowChecks
 addRowRefusal-own-row o row sound own =
     rw (sound, own, sound-parts o sound .system-known, eq-eqb (o .system) (o .system) refl)
@@ -74,7 +75,8 @@ withRow-system : (o : Observation) (row : Row) → withRow o row .system ≡ o .
 unfolding withRow
 withRow-system o row = refl
 
-recordIn-next : (text : List ℕ) (w : ℕ) → recordIn text (w + 1) ≡ addRowAnswer (recordIn text w) (windowRow HarmonicGroup (systemIn text) (windowIn text w)) .observation
+recordIn-next : (text : List ℕ) (w : ℕ)
+    → recordIn text (w + 1) ≡ addRowAnswer (recordIn text w) (windowRow HarmonicGroup (systemIn text) (windowIn text w)) .observation
 unfolding recordIn rowsIn
 recordIn-next text w = record-after-tabulate _ w _
 
@@ -107,17 +109,18 @@ module _ (p block : List ℕ) (w : ℕ) (reading : Reading) (h : Holds p w readi
     before : refusalBefore p (linesTo w) ≡ noRefusal
     before = sym (h .refusal-is) ∙ e
 
-    faults-next : refusalBefore (p ++ block) (linesTo (w + 1)) ≡ cond (eqb (textLinesRefusal block windowLength) noRefusal) (fullAt (linesTo w + (windowLength - 1))) (textLinesRefusal block windowLength)
-    faults-next = sym (ap (refusalBefore (p ++ block)) (lines-of-next w)) ∙ refusalBefore-window p block w (h .long) before
+    refusal-next : refusalBefore (p ++ block) (linesTo (w + 1))
+        ≡ cond (eqb (textLinesRefusal block windowLength) noRefusal) (fullAt (linesTo w + (windowLength - 1))) (textLinesRefusal block windowLength)
+    refusal-next = sym (ap (refusalBefore (p ++ block)) (lines-of-next w)) ∙ refusalBefore-window p block w (h .long) before
 
-    fault-next : (textLinesRefusal block windowLength ≡ noRefusal → ⊥) → Holds (p ++ block) (w + 1) (blockOf reading block)
-    fault-next f =
+    text-line-next : (textLinesRefusal block windowLength ≡ noRefusal → ⊥) → Holds (p ++ block) (w + 1) (blockOf reading block)
+    text-line-next f =
         let same : blockOf reading block ≡ refusedWith (textLinesRefusal block windowLength) reading =
         rw lines-are at (blockOf-text-line reading block e some-bytes (λ z. f (rw lines-are at z))) in
         rw same
         (record {
           long = long-next;
-          refusal-is = sym (faults-next ∙ rw (ne-eqb (textLinesRefusal block windowLength) noRefusal f));
+          refusal-is = sym (refusal-next ∙ rw (ne-eqb (textLinesRefusal block windowLength) noRefusal f));
           goes-on = λ z. absurd (f z);
         })
 
@@ -143,7 +146,9 @@ module _ (p block : List ℕ) (w : ℕ) (reading : Reading) (h : Holds p w readi
       window-next : windowIn (p ++ block) w ≡ samplesOf block
       window-next = windowIn-after p block w (h .long)
 
-      row-next : (kind : Kind) → windowRow kind (systemIn (p ++ block)) (windowIn (p ++ block) (w + 1 - 1)) ≡ windowRow kind (reading .observation .system) (samplesOf block)
+      row-next : (kind : Kind)
+          → windowRow kind (systemIn (p ++ block)) (windowIn (p ++ block) (w + 1 - 1))
+          ≡ windowRow kind (reading .observation .system) (samplesOf block)
       row-next kind =
           let last : w + 1 - 1 ≡ w = omega arith in
           rw (last, system-next, window-next)
@@ -154,7 +159,8 @@ module _ (p block : List ℕ) (w : ℕ) (reading : Reading) (h : Holds p w readi
           let front : recordIn (p ++ block) w ≡ reading .observation = recordIn-front p block w (h .long) ∙ sym (goes .record-is) in
           sym (recordIn-next (p ++ block) w ∙ rw (front, system-next, window-next))
 
-      goes-next : addRowRefusal (reading .observation) (groupRow reading block) ≡ noRefusal → GoesOn (p ++ block) (w + 1) (windowTaken reading (samplesOf block))
+      goes-next : addRowRefusal (reading .observation) (groupRow reading block) ≡ noRefusal
+          → GoesOn (p ++ block) (w + 1) (windowTaken reading (samplesOf block))
       unfolding windowTaken groupRow
       goes-next z =
           let o = reading .observation in
@@ -176,16 +182,17 @@ module _ (p block : List ℕ) (w : ℕ) (reading : Reading) (h : Holds p w readi
           rw taken
           (record {
             long = long-next;
-            refusal-is = window-refusal ∙ full-is w count-le ∙ sym (faults-next ∙ rw (eq-eqb (textLinesRefusal block windowLength) noRefusal none));
+            refusal-is = window-refusal ∙ full-is w count-le ∙ sym (refusal-next ∙ rw (eq-eqb (textLinesRefusal block windowLength) noRefusal none));
             goes-on = goes-next;
           })
 
   pub steps : Holds (p ++ block) (w + 1) (blockOf reading block)
   steps = by-refusal (ℕ-discrete (reading .refusal) noRefusal)
     where
-      by-lines : (e : reading .refusal ≡ noRefusal) → Dec (textLinesRefusal block windowLength ≡ noRefusal) → Holds (p ++ block) (w + 1) (blockOf reading block)
+      by-lines : (e : reading .refusal ≡ noRefusal) → Dec (textLinesRefusal block windowLength ≡ noRefusal)
+          → Holds (p ++ block) (w + 1) (blockOf reading block)
       by-lines e (yes none) = window-next-holds e none
-      by-lines e (no f) = fault-next e f
+      by-lines e (no f) = text-line-next e f
 
       by-refusal : Dec (reading .refusal ≡ noRefusal) → Holds (p ++ block) (w + 1) (blockOf reading block)
       by-refusal (yes e) = by-lines e (ℕ-discrete (textLinesRefusal block windowLength) noRefusal)

@@ -11,7 +11,8 @@ use Rattle.algebra.specs.Lists.{anyOf}
 use Rattle.spectrum.specs.Line.{windowLength, lineCount, windowAt, linesOf}
 use Rattle.spectrum.specs.Spectrum.{outOfRange, spectrumRefusal, spectrumExit}
 
-pub spectrumExit-window : (window : List ℤ) (buffer : List ℕ) → length window ≡ windowLength → length buffer ≡ lineCount → anyOf outOfRange window ≡ false → spectrumExit window 0 buffer ≡ linesOf window
+pub spectrumExit-window : (window : List ℤ) (buffer : List ℕ) → length window ≡ windowLength → length buffer ≡ lineCount
+    → anyOf outOfRange window ≡ false → spectrumExit window 0 buffer ≡ linesOf window
 unfolding spectrumExit spectrumRefusal windowAt
 spectrumExit-window window buffer long count e =
     rw (take-all windowLength window (omega arith), long, count, e)

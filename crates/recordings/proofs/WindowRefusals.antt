@@ -28,13 +28,16 @@ no-further zero = refl
 no-further (suc x) = rw (ne-eqb (suc x) noRefusal (λ e. omega arith))
 
 -- a line that is cut off is refused
-sampleRefusal-cut : (block : List ℕ) (i : ℕ) → length block - textLineBytes * i < textLineBytes → sampleRefusal (textLineAt block i) ≡ notAColumn
+sampleRefusal-cut : (block : List ℕ) (i : ℕ) → length block - textLineBytes * i < textLineBytes
+    → sampleRefusal (textLineAt block i) ≡ notAColumn
 unfolding sampleRefusal isNone
 sampleRefusal-cut block i h = rw (textLineNumber-cut block i h)
 
 module _ (p q : List ℕ) (w : ℕ) (long : length p ≡ textLineBytes * linesTo w) where
   -- the refusal of a line of the second part
-  textLineRefusal-after : (j : ℕ) → textLineRefusal (p ++ q) (linesTo w + j) ≡ cond (eqb (sampleRefusal (textLineAt q j)) noRefusal) (fullAt (linesTo w + j)) (sampleRefusal (textLineAt q j))
+  textLineRefusal-after : (j : ℕ)
+      → textLineRefusal (p ++ q) (linesTo w + j)
+      ≡ cond (eqb (sampleRefusal (textLineAt q j)) noRefusal) (fullAt (linesTo w + j)) (sampleRefusal (textLineAt q j))
   textLineRefusal-after j =
       rw (← textLineAt-after p q (linesTo w) j long)
       (textLineRefusal-sample (p ++ q) (linesTo w + j) (λ e. omega arith))
@@ -44,7 +47,8 @@ module _ (p q : List ℕ) (w : ℕ) (long : length p ≡ textLineBytes * linesTo
   textLineRefusal-within j h =
       textLineRefusal-after j ∙ rw (fullAt-none (linesTo w + j) (λ e. omega arith)) (no-further (sampleRefusal (textLineAt q j)))
 
-  pub refusalBefore-stays : (n : ℕ) → (refusalBefore p (linesTo w) ≡ noRefusal → ⊥) → refusalBefore (p ++ q) (linesTo w + n) ≡ refusalBefore p (linesTo w)
+  pub refusalBefore-stays : (n : ℕ) → (refusalBefore p (linesTo w) ≡ noRefusal → ⊥)
+      → refusalBefore (p ++ q) (linesTo w + n) ≡ refusalBefore p (linesTo w)
   unfolding refusalBefore
   refusalBefore-stays n f =
       let front = refusalBefore-front p q (linesTo w) (omega arith) in
@@ -56,7 +60,8 @@ module _ (p q : List ℕ) (w : ℕ) (long : length p ≡ textLineBytes * linesTo
     front-none = refusalBefore-front p q (linesTo w) (omega arith) ∙ none
 
     -- after a whole window
-    pub refusalBefore-window : refusalBefore (p ++ q) (linesTo w + windowLength) ≡ cond (eqb (textLinesRefusal q windowLength) noRefusal) (fullAt (linesTo w + (windowLength - 1))) (textLinesRefusal q windowLength)
+    pub refusalBefore-window : refusalBefore (p ++ q) (linesTo w + windowLength)
+        ≡ cond (eqb (textLinesRefusal q windowLength) noRefusal) (fullAt (linesTo w + (windowLength - 1))) (textLinesRefusal q windowLength)
     unfolding refusalBefore textLinesRefusal
     refusalBefore-window =
         firstOf-after-none (textLineRefusal (p ++ q)) (linesTo w) windowLength front-none
@@ -69,7 +74,8 @@ module _ (p q : List ℕ) (w : ℕ) (long : length p ≡ textLineBytes * linesTo
         (textLineRefusal-after (windowLength - 1))
 
     -- after fewer bytes than a window's lines, which have n lines
-    pub refusalBefore-short : (n : ℕ) → n ≤ windowLength → length q < windowBytes → refusalBefore (p ++ q) (linesTo w + n) ≡ textLinesRefusal q n
+    pub refusalBefore-short : (n : ℕ) → n ≤ windowLength → length q < windowBytes
+        → refusalBefore (p ++ q) (linesTo w + n) ≡ textLinesRefusal q n
     unfolding refusalBefore textLinesRefusal
     refusalBefore-short n h short =
         firstOf-after-none (textLineRefusal (p ++ q)) (linesTo w) n front-none
@@ -82,7 +88,8 @@ module _ (p q : List ℕ) (w : ℕ) (long : length p ≡ textLineBytes * linesTo
         each j (no f) l = textLineRefusal-within j (omega arith)
 
 -- the last line of a window is cut off where the block is shorter
-pub short-lines : (block : List ℕ) (n : ℕ) → n ≤ windowLength → length block < windowBytes → textLinesRefusal block n ≡ noRefusal → n < windowLength
+pub short-lines : (block : List ℕ) (n : ℕ) → n ≤ windowLength → length block < windowBytes
+    → textLinesRefusal block n ≡ noRefusal → n < windowLength
 unfolding textLinesRefusal
 short-lines block n h short none = by-count (ℕ-discrete n windowLength)
   where

@@ -1,5 +1,5 @@
 -- Worked inputs with their refusals in document 01's figures, by one computed test over a table each: whole inputs, and single lines by their number and place.
--- Each fault, two on one line or input in their order, and both sides of an edge.
+-- Each refusal, two on one line or input in their order, and both sides of an edge.
 use mathlib.Core.Bool.{true}
 use mathlib.Core.List.{List, [], _∷_, _++_}
 use mathlib.Core.Option.{Option, none, some}
@@ -46,7 +46,7 @@ pub worked-refusals : allPass (λ i input. eqb (inputRefusal (input .0)) (input 
 unfolding inputRefusal endRefusal refusalBefore firstOf textLineRefusal numberRefusal isNone noSystem textLineNumber textLineAt numberOr0 textLineCount bytesOf columnNumber signedNumber afterBlanks wholeNumber negativeNumber isWhole areDigits placeValue outOfRange isSystem
 worked-refusals = refl
 
--- The number on a line, the line's place, and its fault. The lines of window 45,001 are 92,160,001 to 92,162,048.
+-- The number on a line, the line's place, and its refusal. The lines of window 45,001 are 92,160,001 to 92,162,048.
 abbrev textLineRefusals : List (Option ℤ × ℕ × ℕ)
 textLineRefusals =
     (none, 0, 13) ∷

@@ -23,7 +23,8 @@ negative c = below-zero true (c .before .fits .number) (c .if1 .taken)
 less : (c : tie.Then1) → negsuc 0 -ℤ toZ w64 (ofZ w64 (c .before .args .number)) ≡ pos (mag (c .before .args .number))
 less c = rw (toZ-ofZ (c .before .fits .number)) (minus-one-sub (c .before .args .number) (negative c))
 
-less-read : (c : tie.Then1) → toZ w64 (ofZ w64 (negsuc 0 -ℤ toZ w64 (ofZ w64 (c .before .args .number)))) ≡ pos (mag (c .before .args .number))
+less-read : (c : tie.Then1)
+    → toZ w64 (ofZ w64 (negsuc 0 -ℤ toZ w64 (ofZ w64 (c .before .args .number)))) ≡ pos (mag (c .before .args .number))
 less-read c = rw (less c) (toZ-pos _ (mag-lt (c .before)))
 
 sub-result : tie.Need-sub-result

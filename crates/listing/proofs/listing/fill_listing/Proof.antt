@@ -19,7 +19,8 @@ returns c =
     (rw short, rw short)
 
 -- the bytes copied are the header
-header-put : (c : tie.After-copy) → Put (c .before .before .before .before .before .args .buffer .now) 0 header (c .copy .result) (c .copy .last .1 .0)
+header-put : (c : tie.After-copy)
+    → Put (c .before .before .before .before .before .args .buffer .now) 0 header (c .copy .result) (c .copy .last .1 .0)
 unfolding header bytesOf rightJustified
 header-put c =
     let buffer = c .before .before .before .before .before .args .buffer .now in

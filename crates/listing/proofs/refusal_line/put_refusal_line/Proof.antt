@@ -12,7 +12,8 @@ use Rattle.listing.proofs.refusal_line.put_refusal_line.Statement.{stat
 use Rattle.listing.proofs.refusal_line.put_refusal_line.Tie as tie
 
 -- the word takes 7 bytes, and the column stands after it
-word-put : (c : tie.After-copy) → Put (c .before .before .before .before .args .buffer .now) 0 (bytesOf "refused") (c .copy .result) (c .copy .last .1 .0)
+word-put : (c : tie.After-copy)
+    → Put (c .before .before .before .before .args .buffer .now) 0 (bytesOf "refused") (c .copy .result) (c .copy .last .1 .0)
 unfolding bytesOf
 word-put c =
     let buffer = c .before .before .before .before .args .buffer .now in

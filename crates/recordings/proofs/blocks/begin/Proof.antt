@@ -12,7 +12,8 @@ use Rattle.recordings.proofs.blocks.begin.Statement.{statement}
 use Rattle.recordings.proofs.blocks.begin.Tie as tie
 
 -- the fresh record is that of the number that was read
-fresh-is : (c : tie.After-fresh-record) → c .fresh-record .result ≡ freshAnswer (systemWord (c .before .before .before .number-on-line .result .value))
+fresh-is : (c : tie.After-fresh-record)
+    → c .fresh-record .result ≡ freshAnswer (systemWord (c .before .before .before .number-on-line .result .value))
 fresh-is c =
     let value = toZ-ofZ {w = w64} {z = c .before .before .before .number-on-line .result .value} (record { sfits = c .before .before .struct-told .given .1 .0 .1 }) in
     c .fresh-record .ensures ∙ ap freshAnswer (c .before .system-word .ensures ∙ ap systemWord value)

@@ -24,7 +24,8 @@ unfolding systemWord
 word-of-large (pos n) h = rw h
 word-of-large (negsuc n) h = refl
 
-word-of-small : (z : ℤ) → ltZ z (pos 0) ≡ false → ltZ (pos largestSystem) z ≡ false → T (nonNeg z) × Fits w32 (natAbs z) × (natAbs z ≡ systemWord z)
+word-of-small : (z : ℤ) → ltZ z (pos 0) ≡ false → ltZ (pos largestSystem) z ≡ false
+    → T (nonNeg z) × Fits w32 (natAbs z) × (natAbs z ≡ systemWord z)
 unfolding systemWord
 word-of-small (pos n) h l = (tt, record { fits = omega (arith, ltb-false largestSystem n l) }, rw l)
 word-of-small (negsuc n) h l = absurd (true≢false h)
@@ -39,7 +40,8 @@ returns-2 c =
     let same = toZ-ofZ (c .before .before .fits .number) in
     word-of-large (c .before .before .args .number) (rw same at (c .if2 .taken))
 
-small : (c : tie.Else2) → T (nonNeg (c .before .before .args .number)) × Fits w32 (natAbs (c .before .before .args .number)) × (natAbs (c .before .before .args .number) ≡ systemWord (c .before .before .args .number))
+small : (c : tie.Else2)
+    → T (nonNeg (c .before .before .args .number)) × Fits w32 (natAbs (c .before .before .args .number)) × (natAbs (c .before .before .args .number) ≡ systemWord (c .before .before .args .number))
 small c =
     let start = c .before .before in
     let same = toZ-ofZ (start .fits .number) in

@@ -45,7 +45,8 @@ returns-2 c =
 accepted : (c : tie.Else2) → blockRefusal (start (c .before) .args .block .now) ≡ noRefusal
 accepted c = sym (refusal-is (c .before)) ∙ c .if2 .left
 
-samples-are : (c : tie.Else2) → c .before .before .before .before .read-samples .last .1 .1 .0 ≡ samplesOf (start (c .before) .args .block .now)
+samples-are : (c : tie.Else2)
+    → c .before .before .before .before .read-samples .last .1 .1 .0 ≡ samplesOf (start (c .before) .args .block .now)
 unfolding samplesOf
 samples-are c =
     let read = c .before .before .before .before in

@@ -61,7 +61,8 @@ accepted c =
     sym (ap (λ (n : NumberAnswer). n .refusal) (c .before .before .before .before .sample-on-line .ensures)) ∙ c .before .before .if1 .left
 
 -- its sample, as the 64 bits that it was read to
-sample-is : (c : tie.After-struct-told Inv-loop μ-loop) → toZ w64 (ofZ w64 (c .before .before .before .before .sample-on-line .result .value)) ≡ numberAt (start c .args .block .now) (lineOf c)
+sample-is : (c : tie.After-struct-told Inv-loop μ-loop)
+    → toZ w64 (ofZ w64 (c .before .before .before .before .sample-on-line .result .value)) ≡ numberAt (start c .args .block .now) (lineOf c)
 unfolding numberAt
 sample-is c =
     let read = c .before .before .before .before .sample-on-line in

@@ -17,7 +17,8 @@ line-of : (c : tie.Start) → List ℕ
 line-of c = textLineAt (c .args .text .now) (c .args .line)
 
 -- the test is one of the number that was read
-tested : (c : tie.After-out-of-range) → outOfRange (readingOf (textLineNumber (line-of (c .before .before .before .before))) .value) ≡ c .out-of-range .result
+tested : (c : tie.After-out-of-range)
+    → outOfRange (readingOf (textLineNumber (line-of (c .before .before .before .before))) .value) ≡ c .out-of-range .result
 unfolding line-of
 tested c =
     let read = c .before .before .number-on-line in
