@@ -1,7 +1,7 @@
 -- Tests as the code computes them: by their parts, and one that follows from another.
 use mathlib.Core.Path.{_≡_, refl, sym, _∙_}
 use mathlib.Core.Logic.{_⊎_, inl, inr}
-use mathlib.Core.Bool.{Bool, true, false, true≢false, _&&_}
+use mathlib.Core.Bool.{Bool, true, false, true≢false, _&&_, and-true, and-assoc}
 use mathlib.Core.List.{List, [], _∷_}
 use Prim.Native.Nat.{ℕ, zero, suc, _<_}
 use native.Mathlib.Decide.{decLt}
@@ -28,6 +28,15 @@ pub allTrue-at : (tests : List Bool) → allTrue tests ≡ true → (i : ℕ) �
 allTrue-at [] e i = refl
 allTrue-at (test ∷ tests) e zero = and-left test (allTrue tests) e
 allTrue-at (test ∷ tests) e (suc i) = allTrue-at tests (and-right test (allTrue tests) e) i
+
+-- the tests joined from the left, as code joins them
+abbrev pub allFrom : Bool → List Bool → Bool
+allFrom so-far [] = so-far
+allFrom so-far (test ∷ tests) = allFrom (so-far && test) tests
+
+pub allFrom-eq : (so-far : Bool) (tests : List Bool) → allFrom so-far tests ≡ so-far && allTrue tests
+allFrom-eq so-far [] = sym (and-true so-far)
+allFrom-eq so-far (test ∷ tests) = allFrom-eq (so-far && test) tests ∙ and-assoc so-far test (allTrue tests)
 
 -- one test of three that fails is found, and each of three that pass
 tests-worked : (allTrue [] ≡ true) × (allTrue (true ∷ true ∷ true ∷ []) ≡ true) × (allTrue (false ∷ true ∷ true ∷ []) ≡ false)

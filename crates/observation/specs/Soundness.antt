@@ -17,8 +17,11 @@ unfoldable pub noneAbove : ℕ → List ℕ → Bool
 noneAbove limit values = not (anyOf (ltb limit) values)
 
 -- all of the record's 120 numbers are 0
+abbrev pub zeroTests : Observation → List Bool
+zeroTests o = noneAbove 0 (o .smoothed) ∷ noneAbove 0 (o .sum) ∷ noneAbove 0 (o .peak) ∷ []
+
 unfoldable pub allZero : Observation → Bool
-allZero o = allTrue (noneAbove 0 (o .smoothed) ∷ noneAbove 0 (o .sum) ∷ noneAbove 0 (o .peak) ∷ [])
+allZero o = allTrue (zeroTests o)
 
 -- its system is 10 or 12, n is at most 45,000, no sum is above n×(2^32−1), no peak or smoothed value above 2^32−1, and n = 0 means zeros
 abbrev pub soundTests : Observation → List Bool

@@ -1,6 +1,6 @@
 -- Observations worked in figures: each refusal and each pair of neighbours in their order with the whole answer, the edges of a window's checks, and the record after document 01's pulse and a silent window.
 use mathlib.Core.List.{List, [], _∷_, _++_, map}
-use mathlib.Core.Path.{_≡_, refl, ap, _∙_}
+use mathlib.Core.Path.{_≡_, refl}
 use Prim.Native.Nat.{ℕ, _-_, _^_}
 use lib.IntN.{ℤ, pos}
 use lib.ListN.{replicate}

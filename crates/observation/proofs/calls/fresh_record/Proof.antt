@@ -8,7 +8,7 @@ use Rattle.observation.proofs.calls.fresh_record.Tie as tie
 
 refusal-is : (c : tie.After-fault-or) → c .fault-or .result ≡ freshRefusal (c .before .before .args .system)
 unfolding freshRefusal
-refusal-is c = cc
+refusal-is c = rw (c .fault-or .ensures, c .before .is-system .ensures)
 
 returns : tie.Need-returns
 unfolding freshAnswer

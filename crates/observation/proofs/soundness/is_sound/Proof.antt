@@ -1,13 +1,25 @@
 -- `observation::soundness::is_sound` meets its contract: each part of the test is a part of the definition.
-use mathlib.Core.Bool.{and-assoc, and-true}
+use mathlib.Core.Bool.{true}
 use borrow.Author.Needs.{needs}
-use Rattle.observation.specs.Soundness.{noneAbove, isSound}
+use Rattle.algebra.proofs.Tests.{allFrom-eq}
+use Rattle.observation.specs.Soundness.{noneAbove, soundTests, isSound}
 use Rattle.observation.proofs.soundness.is_sound.Statement.{statement}
 use Rattle.observation.proofs.soundness.is_sound.Tie as tie
 
 returns : tie.Need-returns
 unfolding isSound noneAbove
-returns c = simp (and-assoc, and-true) (cc)
+returns c =
+    let third = c .before in
+    let second = third .before .before .before .before in
+    let first = second .before .before .before .before in
+    rw (
+      c .all-zero .ensures,
+      third .any-above3 .ensures,
+      second .any-above2 .ensures,
+      first .any-above .ensures,
+      first .before .before .before .before .is-system .ensures,
+    )
+    (allFrom-eq true (soundTests (first .before .before .before .before .before .args .t1)))
 
 pub is-sound-spec : {M : Type 1} → statement M
 is-sound-spec =
