@@ -17,8 +17,6 @@ use refusals::UNSOUND_RECORD;
 use refusals::fault_or;
 use rows::ORDER_COUNT;
 ghost use mathlib.Core.Path.{_≡_};
-ghost use mathlib.Core.Bool.{_&&_};
-ghost use lib.Dec.{leb};
 ghost use Rattle.refusals.specs.Numbers.{noRefusal};
 ghost use Rattle.verdict.specs.Call.{combined, verdictOf, verdictRefusal, verdictAnswer, refusalNumber};
 
@@ -28,12 +26,6 @@ const FIRST_JUDGED: u32 = 2;
 const LAST_JUDGED: u32 = ORDER_COUNT as u32;
 // The largest number of units per ampere.
 const LARGEST_SCALE: u32 = 1 << 28;
-
-fn is_between(number: u32, least: u32, most: u32) -> bool
-    ensures { λ r. ⌜ r ≡ (leb least number && leb number most) ⌝ }
-{
-    (least <= number) & (number <= most)
-}
 
 // The refusal table's row "verdict": the number of the first fault.
 fn verdict_refusal(observation: Observation, question: Question) -> u32
@@ -46,10 +38,10 @@ fn verdict_refusal(observation: Observation, question: Question) -> u32
             observation.windows == 0,
             NO_WINDOW,
             fault_or(
-                !is_between(question.order, FIRST_JUDGED, LAST_JUDGED),
+                !((FIRST_JUDGED <= question.order) & (question.order <= LAST_JUDGED)),
                 ORDER_OUT_OF_RANGE,
                 fault_or(
-                    !is_between(question.scale, 1, LARGEST_SCALE),
+                    !((1 <= question.scale) & (question.scale <= LARGEST_SCALE)),
                     SCALE_OUT_OF_RANGE,
                     NO_REFUSAL,
                 ),
