@@ -17,7 +17,7 @@ use Rattle.spectrum.specs.Line.{lineCount}
 use Rattle.groups.specs.declared.Kind.{Kind}
 use Rattle.groups.specs.declared.Kind.the-variants.{Component, HarmonicGroup, HarmonicSubgroup, InterharmonicGroup, InterharmonicCentredSubgroup}
 use Rattle.groups.specs.declared.Span.{Span}
-use Rattle.groups.specs.Spans.{Weighted, wholeSpan, halfEndedSpan, spanOf, twiceWeightAt, weightsIn, weightsOf, weightedSum}
+use Rattle.groups.specs.Spans.{Weighted, spanOf, twiceWeightAt, weightsIn, weightsOf, weightedSum, linesTotal}
 use Rattle.rows.specs.Orders.{orderCount, isOrder}
 use Rattle.rows.specs.Systems.{isSystem}
 use Rattle.rows.proofs.Orders.{order-bounds}
@@ -49,43 +49,28 @@ module _ (f : ℕ → ℕ) where
 
 -- ---- any span
 
--- the sum of so many lines from a first on
-unfoldable pub linesTotal : (ℕ → ℕ) → ℕ → ℕ → ℕ
-linesTotal f first zero = 0
-linesTotal f first (suc count) = linesTotal f first count + f (first + count)
-
--- the sum of the lines of a span, each taken once, and of its first line and its last
-abbrev pub spanTotal : (ℕ → ℕ) → Span → ℕ
-spanTotal f span = linesTotal f (span .first) (span .count)
-
-abbrev pub lastLine : Span → ℕ
-lastLine span = span .first + (span .count - 1)
-
-abbrev endLines : (ℕ → ℕ) → Span → ℕ
-endLines f span = f (span .first) + f (lastLine span)
-
 -- a span with half ends has two
 abbrev pub TwoEnds : Span → Type 0
 TwoEnds span = span .«half_ends» ≡ true → 2 ≤ span .count
 
 module _ (f : ℕ → ℕ) (first : ℕ) where
+  pub linesTotal-none : linesTotal f first 0 ≡ 0
+  unfolding linesTotal sumOver tabulate
+  linesTotal-none = refl
+
   pub linesTotal-suc : (count : ℕ) → linesTotal f first (count + 1) ≡ linesTotal f first count + f (first + count)
-  unfolding linesTotal
-  linesTotal-suc count = rw (add-one count)
+  unfolding linesTotal sumOver tabulate
+  linesTotal-suc count = rw (add-one count, sumOver-append f (tabulate count (λ i. first + i)) _) (omega arith)
 
   -- fewer lines have no larger sum
   pub linesTotal-le : (i count : ℕ) → i ≤ count → linesTotal f first i ≤ linesTotal f first count
-  unfolding linesTotal
   linesTotal-le i zero h = let e : i ≡ 0 = omega arith in rw e (omega arith)
   linesTotal-le i (suc count) h =
       ⊎-elim
       (λ (e : i ≡ suc count). rw e (omega arith))
-      (λ (l : i < suc count). omega (arith, linesTotal-le i count (le-of-suc-le-suc l)))
+      (λ (l : i < suc count).
+      rw (← add-one count) (omega (arith, linesTotal-suc count, linesTotal-le i count (le-of-suc-le-suc l))))
       (eq-or-lt-of-le h)
-
-  -- no single line is above the sum
-  pub line-le-linesTotal : (i count : ℕ) → i < count → f (first + i) ≤ linesTotal f first count
-  line-le-linesTotal i count h = omega (arith, linesTotal-suc i, linesTotal-le (i + 1) count (omega arith))
 
 -- so many lines from a first on, with any weights
 abbrev linesWith : (ℕ → ℕ) → ℕ → ℕ → List Weighted
@@ -106,123 +91,96 @@ unfolding weightsIn
 weightsIn-line-lt span = linesWith-every _ _ (span .first) (span .count) (λ i h. omega arith)
 
 module _ (f : ℕ → ℕ) (twice : ℕ → ℕ) (first : ℕ) where
+  linesWith-none : weightedSum f (linesWith twice first 0) ≡ 0
+  unfolding weightedSum sumOver tabulate
+  linesWith-none = refl
+
   -- one line more
   linesWith-suc : (count : ℕ)
       → weightedSum f (linesWith twice first (count + 1)) ≡ weightedSum f (linesWith twice first count) + twice count * f (first + count)
   unfolding weightedSum sumOver tabulate
   linesWith-suc count = rw (add-one count, sumOver-append _ (linesWith twice first count) _) (omega arith)
 
-  linesWith-none : weightedSum f (linesWith twice first 0) ≡ 0
-  unfolding weightedSum sumOver tabulate
-  linesWith-none = refl
+  -- more lines, with weight 1
+  linesWith-whole : (some more : ℕ) → ((i : ℕ) → i < more → twice (some + i) ≡ 2)
+      → weightedSum f (linesWith twice first (some + more)) ≡ weightedSum f (linesWith twice first some) + 2 * linesTotal f (first + some) more
+  linesWith-whole some zero h =
+      let e : some + 0 ≡ some = omega arith in
+      rw (e, linesTotal-none f (first + some)) (omega arith)
+  linesWith-whole some (suc more) h =
+      let e : some + suc more ≡ some + more + 1 = omega arith in
+      let same : first + some + more ≡ first + (some + more) = omega arith in
+      rw (e, ← add-one more, linesWith-suc (some + more), linesTotal-suc f (first + some) more, same, h more (omega arith))
+      (omega (arith, linesWith-whole some more (λ i l. h i (omega arith))))
 
-  -- lines with weight 1 after some others
-  linesWith-whole : (from count : ℕ) → ((i : ℕ) → i < count → twice (from + i) ≡ 2)
-      → weightedSum f (linesWith twice first (from + count)) + 2 * linesTotal f first from ≡ weightedSum f (linesWith twice first from) + 2 * linesTotal f first (from + count)
-  linesWith-whole from zero h = let e : from + 0 ≡ from = omega arith in rw e (omega arith)
-  linesWith-whole from (suc count) h =
-      let e : from + suc count ≡ from + count + 1 = omega arith in
-      rw (e, linesWith-suc (from + count), linesTotal-suc f first (from + count), h count (omega arith))
-      (omega (arith, linesWith-whole from count (λ i l. h i (omega arith))))
+module _ (f : ℕ → ℕ) (span : Span) where
+  -- a span with half ends: the lines between count twice, and each end once
+  pub weightedSum-halfEnds : span .«half_ends» ≡ true → 2 ≤ span .count
+      → weightedSum f (weightsIn span) ≡ f (span .first) + 2 * linesTotal f (span .first + 1) (span .count - 2) + f (span .first + (span .count - 1))
+  unfolding weightsIn
+  weightedSum-halfEnds e many =
+      let twice = twiceWeightAt span in
+      let between = span .count - 2 in
+      let last = 1 + between in
+      let whole : last + 1 ≡ span .count = omega arith in
+      let end : span .count - 1 ≡ last = omega arith in
+      let start : span .first + 0 ≡ span .first = omega arith in
+      let first-half : twice 0 ≡ 1 = rw e in
+      let last-half : twice last ≡ 1 =
+      rw (e, ne-eqb last 0 (λ z. omega arith), eq-eqb (last + 1) (span .count) whole) in
+      let all-between : (i : ℕ) → i < between → twice (1 + i) ≡ 2 =
+      λ i h. rw (e, ne-eqb (1 + i) 0 (λ z. omega arith), ne-eqb (1 + i + 1) (span .count) (λ z. omega arith)) in
+      rw end
+      (omega (
+        arith,
+        rw (first-half, linesWith-none f twice (span .first), start) at (linesWith-suc f twice (span .first) 0),
+        linesWith-whole f twice (span .first) 1 between all-between,
+        rw (last-half, whole) at (linesWith-suc f twice (span .first) last),
+      ))
 
-at-start : (f : ℕ → ℕ) (first : ℕ) → f (first + 0) ≡ f first
-at-start f first = ap f (omega arith)
-
--- the sum over a span, with what its half ends leave out
-pub weightedSum-span : (f : ℕ → ℕ) (span : Span) → TwoEnds span
-    → weightedSum f (weightsIn span) + cond (span .«half_ends») (endLines f span) 0 ≡ 2 * spanTotal f span
-unfolding weightsIn linesTotal
-weightedSum-span f span two = by-ends (span .«half_ends») refl
-  where
-    by-ends : (half : Bool) → span .«half_ends» ≡ half
-        → weightedSum f (weightsIn span) + cond half (endLines f span) 0 ≡ 2 * spanTotal f span
-    by-ends true e =
-        let between = span .count - 2 in
-        let last = 1 + between in
-        let many = two e in
-        let whole : last + 1 ≡ span .count = omega arith in
-        let end : span .count - 1 ≡ last = omega arith in
-        let first-half : twiceWeightAt span 0 ≡ 1 = rw e in
-        let last-half : twiceWeightAt span last ≡ 1 =
-        rw (e, ne-eqb last 0 (λ z. omega arith), eq-eqb (last + 1) (span .count) whole) in
-        let all-between : (i : ℕ) → i < between → twiceWeightAt span (1 + i) ≡ 2 =
-        λ i h. rw (e, ne-eqb (1 + i) 0 (λ z. omega arith), ne-eqb (1 + i + 1) (span .count) (λ z. omega arith)) in
-        let all = linesWith-whole f (twiceWeightAt span) (span .first) 1 between all-between in
-        let at-first = linesWith-suc f (twiceWeightAt span) (span .first) 0 in
-        let at-last = linesWith-suc f (twiceWeightAt span) (span .first) last in
-        rw end
-        (omega (
-          arith,
-          all,
-          rw (first-half, linesWith-none f (twiceWeightAt span) (span .first)) at at-first,
-          rw (last-half, whole) at at-last,
-          linesTotal-suc f (span .first) 0,
-          rw whole at (linesTotal-suc f (span .first) last),
-          at-start f (span .first),
-        ))
-    by-ends false e =
-        let same : 0 + span .count ≡ span .count = omega arith in
-        let all = linesWith-whole f (twiceWeightAt span) (span .first) 0 (span .count) (λ i h. rw e) in
-        omega (arith, rw same at all, linesWith-none f (twiceWeightAt span) (span .first))
+  -- any other: every line counts twice
+  pub weightedSum-wholeEnds : span .«half_ends» ≡ false → weightedSum f (weightsIn span) ≡ 2 * linesTotal f (span .first) (span .count)
+  unfolding weightsIn
+  weightedSum-wholeEnds e =
+      let twice = twiceWeightAt span in
+      let same : 0 + span .count ≡ span .count = omega arith in
+      let start : span .first + 0 ≡ span .first = omega arith in
+      omega (
+        arith,
+        rw (same, start) at (linesWith-whole f twice (span .first) 0 (span .count) (λ i h. rw e)),
+        linesWith-none f twice (span .first),
+      )
 
 weightedSum-ones : (xs : List Weighted) → weightedSum (λ k. 1) xs ≡ totalTwiceWeight xs
 unfolding weightedSum
 weightedSum-ones xs = sumOver-eq _ _ xs (everywhere-all _ (λ x. omega arith) xs)
 
 linesTotal-ones : (first count : ℕ) → linesTotal (λ k. 1) first count ≡ count
-unfolding linesTotal
-linesTotal-ones first zero = refl
-linesTotal-ones first (suc count) = rw (linesTotal-ones first count) (add-one count)
+linesTotal-ones first zero = linesTotal-none (λ k. 1) first
+linesTotal-ones first (suc count) =
+    rw (← add-one count) (omega (arith, linesTotal-suc (λ k. 1) first count, linesTotal-ones first count))
 
 -- twice the weights of a span: 2 for each line, less 2 where the ends are half
 pub totalTwiceWeight-span : (span : Span) → TwoEnds span
     → totalTwiceWeight (weightsIn span) + cond (span .«half_ends») 2 0 ≡ 2 * span .count
-totalTwiceWeight-span span two =
-    rw (weightedSum-ones (weightsIn span), linesTotal-ones (span .first) (span .count)) at
-    (weightedSum-span (λ k. 1) span two)
-
-module _ (f : ℕ → ℕ) (span : Span) (two : TwoEnds span) where
-  -- no line of a span has less than weight 1/2
-  pub linesTotal-le-weightedSum : spanTotal f span ≤ weightedSum f (weightsIn span)
-  linesTotal-le-weightedSum = omega (arith, weightedSum-span f span two, by-ends (span .«half_ends») two)
-    where
-      by-ends : (half : Bool) → (half ≡ true → 2 ≤ span .count)
-          → cond half (endLines f span) 0 ≤ spanTotal f span
-      by-ends true many =
-          let two-lines = many refl in
-          let before = span .count - 1 in
-          let whole : before + 1 ≡ span .count = omega arith in
-          omega (
-            arith,
-            rw whole at (linesTotal-suc f (span .first) before),
-            line-le-linesTotal f (span .first) 0 before (omega arith),
-            at-start f (span .first),
-          )
-      by-ends false many = omega arith
-
-  -- where the ends are half, the sum of all lines less the first, and that less the last
-  pub record HalfEnds : Type 0 where
-    pub first-le : f (span .first) ≤ spanTotal f span
-    pub last-le : f (lastLine span) ≤ spanTotal f span
-    pub parts :
-        weightedSum f (weightsIn span) ≡
-        spanTotal f span - f (span .first) +
-        (spanTotal f span - f (lastLine span))
-
-  pub weightedSum-halfEnds : span .«half_ends» ≡ true → HalfEnds
-  weightedSum-halfEnds e =
-      let many = two e in
-      let ends : cond (span .«half_ends») (endLines f span) 0 ≡ endLines f span = rw e in
-      let first-le : f (span .first) ≤ spanTotal f span =
-      omega (arith, line-le-linesTotal f (span .first) 0 (span .count) (omega arith), at-start f (span .first)) in
-      let last-le = line-le-linesTotal f (span .first) (span .count - 1) (span .count) (omega arith) in
-      record { first-le = first-le; last-le = last-le; parts = omega (arith, weightedSum-span f span two) }
-
-  -- else twice that sum
-  pub weightedSum-wholeEnds : span .«half_ends» ≡ false → weightedSum f (weightsIn span) ≡ spanTotal f span + spanTotal f span
-  weightedSum-wholeEnds e =
-      let ends : cond (span .«half_ends») (endLines f span) 0 ≡ 0 = rw e in
-      omega (arith, weightedSum-span f span two)
+totalTwiceWeight-span span two = by-ends (span .«half_ends») refl
+  where
+    by-ends : (half : Bool) → span .«half_ends» ≡ half → totalTwiceWeight (weightsIn span) + cond half 2 0 ≡ 2 * span .count
+    by-ends true e =
+        let many = two e in
+        omega (
+          arith,
+          weightedSum-ones (weightsIn span),
+          weightedSum-halfEnds (λ k. 1) span e many,
+          linesTotal-ones (span .first + 1) (span .count - 2),
+        )
+    by-ends false e =
+        omega (
+          arith,
+          weightedSum-ones (weightsIn span),
+          weightedSum-wholeEnds (λ k. 1) span e,
+          linesTotal-ones (span .first) (span .count),
+        )
 
 -- ---- the spans of the kinds
 

@@ -49,3 +49,7 @@ weightsOf kind n h = weightsIn (spanOf kind n h)
 -- the sum of 2×w×L over some lines, L given by the line's number
 unfoldable pub weightedSum : (ℕ → ℕ) → List Weighted → ℕ
 weightedSum lineAt xs = sumOver (λ x. x .twiceWeight * lineAt (x .line)) xs
+
+-- the sum of so many lines from a first on, each taken once
+unfoldable pub linesTotal : (ℕ → ℕ) → ℕ → ℕ → ℕ
+linesTotal lineAt first count = sumOver lineAt (tabulate count (λ i. first + i))

@@ -7,7 +7,7 @@ ghost use Prim.Native.Nat.{_+_, _^_, _≤_, _<_};
 ghost use lib.ListN.{length};
 ghost use Rattle.rows.specs.Orders.{isOrder};
 ghost use Rattle.rows.specs.Systems.{isSystem};
-ghost use Rattle.groups.specs.Spans.{spanOf, weightsIn, weightedSum};
+ghost use Rattle.groups.specs.Spans.{spanOf, weightsIn, weightedSum, linesTotal};
 ghost use Rattle.groups.specs.Group.{lineAt};
 
 // The lines of a kind, of a system and an order that are known.
@@ -47,8 +47,22 @@ pub(crate) fn span_of(kind: Kind, system: u32, order: u32) -> Span
     }
 }
 
-// The sum of 2×w×L over the lines of a span. Each line is added once, and that sum counts twice, less
-// the first line and the last where their weight is 1/2.
+// The sum of so many lines from a first on.
+fn lines_total(lines: &[u64], first: usize, count: usize) -> u64
+    requires { ⌜ first + count ≤ length (now lines) ⌝ }
+    requires { ⌜ linesTotal (lineAt (now lines)) first count < 2 ^ 64 ⌝ }
+    ensures { λ r. ⌜ r ≡ linesTotal (lineAt (now (lines .entry))) first count ⌝ }
+{
+    let mut sum: u64 = 0;
+    let mut i = 0;
+    while i < count {
+        sum += lines[first + i];
+        i += 1;
+    }
+    sum
+}
+
+// The sum of 2×w×L over the lines of a span: a line with weight 1 counts twice, and one with weight 1/2 once.
 pub(crate) fn span_sum(lines: &[u64], span: Span) -> u64
     requires { ⌜ span .first + span .count ≤ length (now lines) ⌝ }
     requires { ⌜ (span .«half_ends» ≡ true → 2 ≤ span .count) ⌝ }
@@ -57,14 +71,9 @@ pub(crate) fn span_sum(lines: &[u64], span: Span) -> u64
 {
     let first = span.first;
     let count = span.count;
-    let mut sum: u64 = 0;
-    let mut i = 0;
-    while i < count {
-        sum += lines[first + i];
-        i += 1;
-    }
     if span.half_ends {
-        return (sum - lines[first]) + (sum - lines[first + (count - 1)]);
+        let between = lines_total(lines, first + 1, count - 2);
+        return lines[first] + 2 * between + lines[first + (count - 1)];
     }
-    sum + sum
+    2 * lines_total(lines, first, count)
 }

@@ -1,106 +1,75 @@
--- `groups::spans::span_sum` meets its contract. The loop's invariant: the sum is that of the first `i` lines, all taken once. The measure is the count of lines that are left.
-use mathlib.Core.Path.{_≡_, refl}
-use Prim.Native.Nat.{_+_, _-_, _^_, _≤_, _<_}
+-- `groups::spans::span_sum` meets its contract: the sum of a span by its parts, each of which fits where the whole does.
+use mathlib.Core.Path.{_≡_}
+use Prim.Native.Nat.{_+_, _-_, _*_, _≤_}
 use native.Mathlib.Omega.{arith}
 use borrow.Author.Needs.{needs}
 use Rattle.groups.specs.Group.{lineAt}
-use Rattle.groups.proofs.Weights.{linesTotal, spanTotal, linesTotal-suc, linesTotal-le, linesTotal-le-weightedSum, HalfEnds, weightedSum-halfEnds, weightedSum-wholeEnds}
+use Rattle.groups.specs.Spans.{weightsIn, weightedSum, linesTotal}
+use Rattle.groups.proofs.Weights.{weightedSum-halfEnds, weightedSum-wholeEnds}
 use Rattle.groups.proofs.spans.span_sum.Statement.{statement}
 use Rattle.groups.proofs.spans.span_sum.Tie as tie
 
-abbrev Inv-loop : tie.InvT-loop
-Inv-loop lines span first count sum₀ i₀ sum i =
-    (i ≤ count) × (sum ≡ linesTotal (lineAt lines) first i)
+abbrev start : tie.Then1 → tie.Start
+start c = c .before .before
 
-abbrev μ-loop : tie.MeasureT-loop
-μ-loop lines span first count sum₀ i₀ sum i = count - i
+two-ends : (c : tie.Then1) → 2 ≤ start c .args .span .count
+two-ends c = start c .pre .1 .0 (c .if1 .taken)
 
-loop-holds : tie.Need-loop-holds Inv-loop μ-loop
-unfolding linesTotal
-loop-holds c = (omega arith, refl)
+-- the sum by its parts
+half : (c : tie.Then1)
+    → let f = lineAt (start c .args .lines .now) in
+    let span = start c .args .span in
+    weightedSum f (weightsIn span) ≡
+    f (span .first) + 2 * linesTotal f (span .first + 1) (span .count - 2) + f (span .first + (span .count - 1))
+half c = weightedSum-halfEnds _ _ (c .if1 .taken) (two-ends c)
 
-add-sum-2 : tie.Need-add-sum-2 Inv-loop μ-loop
-add-sum-2 c =
-    let at = c .before .before in
-    let start = at .before in
-    let f = lineAt (start .args .lines .now) in
-    let span = start .args .span in
-    omega (
-      arith,
-      at .loop .inv .1,
-      linesTotal-suc f (span .first) (at .loop .i),
-      linesTotal-le f (span .first) (at .loop .i + 1) (span .count) (omega arith),
-      linesTotal-le-weightedSum f span (start .pre .1 .0),
-      start .pre .1 .1,
-    )
+whole : (c : tie.Else1)
+    → let f = lineAt (c .before .before .args .lines .now) in
+    let span = c .before .before .args .span in
+    weightedSum f (weightsIn span) ≡ 2 * linesTotal f (span .first) (span .count)
+whole c = weightedSum-wholeEnds _ _ (c .if1 .left)
 
-loop-again : tie.Need-loop-again Inv-loop μ-loop
-loop-again c =
-    let at = c .before .before in
-    let start = at .before in (
-      omega arith,
-      omega (arith, at .loop .inv .1, linesTotal-suc (lineAt (start .args .lines .now)) (start .args .span .first) (at .loop .i)),
-    )
+lines-total-requires : tie.Need-lines-total-requires
+lines-total-requires c κs = (omega (arith, two-ends c), omega (arith, half c))
 
--- after the loop the sum is that of all lines
-all-summed : (c : tie.After-loop Inv-loop μ-loop)
-    → c .before .loop .sum ≡ spanTotal (lineAt (c .before .before .args .lines .now)) (c .before .before .args .span)
-all-summed c =
-    let end : c .before .loop .i ≡ c .before .before .args .span .count = omega arith in
-    rw end at (c .before .loop .inv .1)
+mul-result-2 : tie.Need-mul-result-2
+mul-result-2 c = omega (arith, c .before .lines-total .ensures, half (c .before .before))
 
--- both ends are among the lines
-two-lines : (c : tie.Then1 Inv-loop μ-loop) → 2 ≤ c .before .before .before .args .span .count
-two-lines c = c .before .before .before .pre .1 .0 (c .if1 .taken)
+add-result : tie.Need-add-result
+add-result c = omega (arith, c .before .lines-total .ensures, half (c .before .before))
 
-half-ends : (c : tie.Then1 Inv-loop μ-loop)
-    → let start = c .before .before .before in HalfEnds (lineAt (start .args .lines .now)) (start .args .span) (start .pre .1 .0)
-half-ends c = weightedSum-halfEnds _ _ _ (c .if1 .taken)
+returns : tie.Need-returns
+returns c = omega (arith, c .before .before .lines-total .ensures, half (c .before .before .before))
 
-sub-result : tie.Need-sub-result Inv-loop μ-loop
-sub-result c = omega (arith, all-summed (c .before .before), half-ends (c .before) .first-le)
+add-result-3 : tie.Need-add-result-3
+add-result-3 c = omega (arith, returns c, start (c .before .before .before) .pre .1 .1)
 
-sub-result-3 : tie.Need-sub-result-3 Inv-loop μ-loop
-sub-result-3 c = omega (arith, all-summed (c .before .before .before), half-ends (c .before .before) .last-le)
+lines-total-requires-2 : tie.Need-lines-total-requires-2
+lines-total-requires-2 c κs = (omega arith, omega (arith, whole c))
 
-returns : tie.Need-returns Inv-loop μ-loop
-returns c = omega (arith, all-summed (c .before .before .before), half-ends (c .before .before) .parts)
+returns-2 : tie.Need-returns-2
+returns-2 c = omega (arith, c .lines-total2 .ensures, whole (c .before))
 
-add-result-2 : tie.Need-add-result-2 Inv-loop μ-loop
-add-result-2 c = omega (arith, returns c, c .before .before .before .before .before .pre .1 .1)
-
-returns-2 : tie.Need-returns-2 Inv-loop μ-loop
-returns-2 c =
-    let start = c .before .before .before in
-    let f = lineAt (start .args .lines .now) in
-    omega (arith, all-summed (c .before), weightedSum-wholeEnds f (start .args .span) (start .pre .1 .0) (c .if1 .left))
-
-add-result-3 : tie.Need-add-result-3 Inv-loop μ-loop
-add-result-3 c = omega (arith, returns-2 c, c .before .before .before .pre .1 .1)
+mul-result-4 : tie.Need-mul-result-4
+mul-result-4 c = omega (arith, returns-2 c)
 
 pub span-sum-spec : {M : Type 1} → statement M
 span-sum-spec =
     tie.close
     (tie.spec
-    Inv-loop
-    μ-loop
-    loop-holds
+    (λ c. search needs)
+    two-ends
+    lines-total-requires
+    (λ c. search needs)
+    (λ c. omega (arith, two-ends (c .before .before)))
+    mul-result-2
+    add-result
+    (λ c. omega (arith, two-ends (c .before .before)))
     (λ c. search needs)
     (λ c. search needs)
-    (λ c. search needs)
-    add-sum-2
-    (λ c. search needs)
-    (λ c. search needs)
-    loop-again
-    (λ c. omega (arith, two-lines c))
-    (λ c. omega (arith, two-lines (c .before)))
-    sub-result
-    (λ c. omega (arith, two-lines (c .before)))
-    (λ c. omega (arith, two-lines (c .before)))
-    (λ c. omega (arith, two-lines (c .before)))
-    (λ c. omega (arith, two-lines (c .before .before)))
-    sub-result-3
-    add-result-2
-    returns
+    (λ c. omega (arith, two-ends (c .before .before .before)))
     add-result-3
+    returns
+    lines-total-requires-2
+    mul-result-4
     returns-2)
