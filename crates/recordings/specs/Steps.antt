@@ -5,14 +5,11 @@ use mathlib.Core.Path.{_≡_}
 use Prim.Native.Nat.{ℕ, _+_}
 use lib.Dec.{ltb}
 use lib.IntN.{ℤ, pos, negsuc}
-use lib.ListN.{drop, replicate}
+use lib.ListN.{drop}
 use Rattle.algebra.specs.Lists.{tabulate}
 use Rattle.refusals.specs.Numbers.{noRefusal}
 use Rattle.refusals.specs.Answers.{unlessRefused}
 use Rattle.columns.specs.declared.NumberAnswer.{NumberAnswer}
-use Rattle.rows.specs.Orders.{orderCount}
-use Rattle.observation.specs.declared.Observation.{Observation}
-use Rattle.recordings.specs.declared.Reading.{Reading}
 use Rattle.recordings.specs.TextLines.{textLineNumber, numberOr0, numberAt}
 use Rattle.recordings.specs.Blocks.{sampleRefusal, textLinesRefusal}
 
@@ -37,13 +34,3 @@ largestSystem = 12
 unfoldable pub systemWord : ℤ → ℕ
 systemWord (pos n) = cond (ltb largestSystem n) 0 n
 systemWord (negsuc n) = 0
-
--- the reading before the first window
-unfoldable pub readingOfNone : ℕ → Observation → Reading
-readingOfNone refusal observation =
-    record {
-      refusal = refusal;
-      observation = observation;
-      group = replicate orderCount 0;
-      subgroup = replicate orderCount 0;
-    }

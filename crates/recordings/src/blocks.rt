@@ -7,7 +7,6 @@ use crate::text_lines::read_samples;
 use columns::COLUMN_WIDTH;
 use groups::Kind;
 use groups::group_row;
-use observation::Observation;
 use observation::add_row;
 use observation::fresh_record;
 use refusals::NO_REFUSAL;
@@ -24,8 +23,8 @@ ghost use lib.ListN.{length};
 ghost use Rattle.algebra.specs.Lists.{anyOf};
 ghost use Rattle.spectrum.specs.Line.{windowLength};
 ghost use Rattle.spectrum.specs.Spectrum.{outOfRange};
-ghost use Rattle.recordings.specs.Blocks.{beginOf, blockLines, refusedWith, windowTaken, blockOf};
-ghost use Rattle.recordings.specs.Steps.{systemWord, readingOfNone};
+ghost use Rattle.recordings.specs.Blocks.{beginOf, blockLines, windowTaken, blockOf};
+ghost use Rattle.recordings.specs.Steps.{systemWord};
 
 // The larger of the two systems: a number above it is none.
 const LARGEST_SYSTEM: i64 = 12;
@@ -43,18 +42,6 @@ fn system_word(number: i64) -> u32
     number as u32
 }
 
-// The reading with no window yet.
-fn reading_of_none(refusal: u32, observation: Observation) -> Reading
-    ensures { λ r. ⌜ r ≡ readingOfNone refusal observation ⌝ }
-{
-    Reading {
-        refusal,
-        observation,
-        group: [0; ORDER_COUNT],
-        subgroup: [0; ORDER_COUNT],
-    }
-}
-
 // The reading after the first line of an input, which is handed over with its newline; a shorter
 // input is handed over whole. Bytes after the line are not looked at. Refused: 13, 1.
 pub fn begin(line: &[u8]) -> Reading
@@ -63,10 +50,12 @@ pub fn begin(line: &[u8]) -> Reading
     let number = number_on_line(line, 0);
     let fresh = fresh_record(system_word(number.value));
     let observation = fresh.observation;
-    if number.refusal != NO_REFUSAL {
-        return reading_of_none(number.refusal, observation);
+    Reading {
+        refusal: fault_or(number.refusal != NO_REFUSAL, number.refusal, fresh.refusal),
+        observation,
+        group: [0; ORDER_COUNT],
+        subgroup: [0; ORDER_COUNT],
     }
-    reading_of_none(fresh.refusal, observation)
 }
 
 // How many lines of a block are looked at, a last one that is cut off among them.
@@ -77,21 +66,6 @@ fn block_lines(block: &[u8]) -> usize
         return WINDOW_LENGTH;
     }
     (block.len() + COLUMN_WIDTH) / LINE_BYTES
-}
-
-// The reading that is refused.
-fn refused_with(refusal: u32, reading: Reading) -> Reading
-    ensures { λ r. ⌜ r ≡ refusedWith refusal reading ⌝ }
-{
-    let observation = reading.observation;
-    let group = reading.group;
-    let subgroup = reading.subgroup;
-    Reading {
-        refusal,
-        observation,
-        group,
-        subgroup,
-    }
 }
 
 // The reading with one more window, whose samples are in range.
@@ -139,7 +113,9 @@ pub fn take_block(reading: Reading, block: &[u8]) -> Reading
         fault_or(block.len() < WINDOW_BYTES, SHORT_WINDOW, NO_REFUSAL),
     );
     if refusal != NO_REFUSAL {
-        return refused_with(refusal, reading);
+        let mut refused = reading;
+        refused.refusal = refusal;
+        return refused;
     }
     take_window(reading, &samples)
 }

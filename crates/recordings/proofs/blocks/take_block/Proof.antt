@@ -1,14 +1,18 @@
 -- `recordings::blocks::take_block` meets its contract.
+use mathlib.Core.Bool.{cond, not}
 use mathlib.Core.Path.{_≡_, refl, sym, ap, _∙_}
+use Prim.Native.Nat.{ℕ}
 use borrow.Author.Needs.{needs}
+use lib.Dec.{eqb}
 use lib.IntN.{pos}
 use lib.ListN.{replicate}
 use Rattle.algebra.proofs.Lists.{filled-tabulate}
 use Rattle.refusals.specs.Numbers.{noRefusal}
+use Rattle.refusals.specs.Answers.{firstFault}
 use Rattle.refusals.proofs.Answers.{unlessRefused-accepted, unlessRefused-refused}
 use Rattle.spectrum.specs.Line.{windowLength}
 use Rattle.recordings.specs.TextLines.{numberAt}
-use Rattle.recordings.specs.Blocks.{textLinesRefusal, blockRefusal, samplesOf, windowTaken, blockOf}
+use Rattle.recordings.specs.Blocks.{textLinesRefusal, blockChecks, blockRefusal, samplesOf, windowTaken, blockOf}
 use Rattle.recordings.proofs.Samples.{samplesOf-length, samplesOf-in-range}
 use Rattle.recordings.proofs.BlockLaws.{blockLines-whole, blockLines-fit, blockRefusal-none}
 use Rattle.recordings.proofs.blocks.take_block.Statement.{statement}
@@ -30,16 +34,18 @@ refusal-is : (c : tie.After-fault-or2) → c .fault-or2 .result ≡ blockRefusal
 unfolding blockRefusal
 refusal-is c =
     let read = c .before .before .before in
-    let first = read .read-samples .ensures .refusal-is ∙ ap (textLinesRefusal (start c .args .block .now)) (read .before .before .block-lines .ensures) in
-    cc (c .fault-or2 .ensures, c .before .fault-or .ensures)
+    let block = start c .args .block .now in
+    let first = read .read-samples .ensures .refusal-is ∙ ap (textLinesRefusal block) (read .before .before .block-lines .ensures) in
+    c .fault-or2 .ensures
+    ∙ ap (λ (rest : ℕ). cond (not (eqb (read .read-samples .result) noRefusal)) (read .read-samples .result) rest) (c .before .fault-or .ensures)
+    ∙ ap (λ (refusal : ℕ). firstFault (blockChecks refusal block)) first
 
 returns-2 : tie.Need-returns-2
 unfolding blockOf
 returns-2 c =
-    let at = c .before .before in
-    c .refused-with .ensures
-    ∙ rw (at .before .before .before .before .before .before .if1 .left, refusal-is at)
-    (sym (unlessRefused-refused (blockRefusal (start at .args .block .now)) _ _ (λ e. c .before .if2 .taken (refusal-is at ∙ e))))
+    let at = c .before in
+    rw (at .before .before .before .before .before .before .if1 .left, refusal-is at)
+    (sym (unlessRefused-refused (blockRefusal (start at .args .block .now)) _ _ (λ e. c .if2 .taken (refusal-is at ∙ e))))
 
 -- a block that is not refused: the samples read are the block's
 accepted : (c : tie.Else2) → blockRefusal (start (c .before) .args .block .now) ≡ noRefusal
@@ -81,7 +87,6 @@ take-block-spec =
     (λ c κs. search needs)
     (λ c. search needs)
     read-samples-requires
-    (λ c κs. search needs)
     (λ c κs. search needs)
     (λ c κs. search needs)
     returns-2
