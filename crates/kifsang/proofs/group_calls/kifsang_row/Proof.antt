@@ -41,7 +41,7 @@ returns c = own-refused _ _ _ _ _ (own (c .before)) (c .if1 .taken)
 
 hand-over-row-requires : tie.Need-hand-over-row-requires
 hand-over-row-requires c κs =
-    let at-own = c .before .before .before .before .before in
+    let at-own = c .before .before .before .before .before .before in
     let a = at-own .before .before .before .before .before .before .args in
     let passed = no-fault (kindCheck (a .kind) .0) unknownKind _ (omega arith) (sym (own (at-own .before)) ∙ at-own .if1 .left) in
     count-passed orderCount noRefusal (a .values .now) (passed .1) .0
@@ -50,7 +50,7 @@ returns-2 : tie.Need-returns-2
 unfolding rowCallRefusal rowCallExit groupRowAnswer
 returns-2 c =
     let at-hand = c .before .before in
-    let at-call = at-hand .before .before .before .before in
+    let at-call = at-hand .before .before .before .before .before in
     let at-kind = at-call .before in
     let at-own = at-kind .before in
     let a = at-own .before .before .before .before .before .before .args in

@@ -8,8 +8,7 @@ use Rattle.refusals.specs.Numbers.{noRefusal}
 use Rattle.refusals.specs.Answers.{firstFault}
 use Rattle.rows.specs.Orders.{orderCount}
 use Rattle.rows.proofs.Rows.{firstValues-whole}
-use Rattle.columns.specs.Listing.{listingText}
-use Rattle.columns.specs.Calls.{listingRefusal, listingExit}
+use Rattle.listing.specs.Listing.{listingText, listingRefusal, listingExit}
 use Rattle.kifsang.specs.Refusals.{wordCountCheck}
 use Rattle.kifsang.specs.ListingCall.{listingCallRefusal, listingCallExit, listingCallCountExit}
 use Rattle.kifsang.proofs.Handed.{own-refused, count-passed, received-eq, handed-answer}
