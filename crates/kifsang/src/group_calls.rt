@@ -1,9 +1,9 @@
 // Group values, a row of them and its distortion, for callers in other languages.
 use crate::UNKNOWN_KIND;
 use crate::WRONG_WORD_COUNT;
-use crate::words::hand_over;
-use crate::words::hand_over_row;
 use groups::Kind;
+use record_words::hand_over;
+use record_words::hand_over_row;
 use refusals::NO_REFUSAL;
 use refusals::fault_or;
 use rows::ORDER_COUNT;

@@ -6,7 +6,6 @@ mod group_calls;
 mod line_calls;
 mod listing_call;
 mod record_calls;
-mod words;
 
 // A number that stands for no kind.
 const UNKNOWN_KIND: u32 = 101;

@@ -1,6 +1,6 @@
 // The listing, for callers in other languages.
 use crate::WRONG_WORD_COUNT;
-use crate::words::hand_over;
+use record_words::hand_over;
 use refusals::NO_REFUSAL;
 use refusals::fault_or;
 use rows::ORDER_COUNT;

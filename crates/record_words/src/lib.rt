@@ -1,9 +1,12 @@
-// An observation record as words that a caller keeps: the parts of the record one after the other,
-// in the order of include/kifsang.h. The places of the parts stand here once for the code, and in
-// specs/Words.antt once for the contracts.
+// What a caller of the interface keeps and receives: answers, rows, and an observation record as
+// words, the parts of the record one after the other in the order of include/kifsang.h. The places
+// of the parts stand here once for the code, and in specs/Words.antt once for the contracts.
+mod answers;
 mod reading;
 mod writing;
 
+pub use answers::hand_over;
+pub use answers::hand_over_row;
 pub use reading::read_record;
 use rows::ORDER_COUNT;
 pub use writing::hand_over_record;

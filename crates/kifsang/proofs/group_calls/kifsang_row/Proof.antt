@@ -10,7 +10,7 @@ use Rattle.refusals.specs.Numbers.{noRefusal}
 use Rattle.refusals.specs.Answers.{firstFault}
 use Rattle.refusals.proofs.Answers.{no-fault}
 use Rattle.rows.specs.Orders.{orderCount}
-use Rattle.rows.proofs.Rows.{firstValues-whole}
+use Rattle.record_words.proofs.Parts.{wordsFrom-whole}
 use Rattle.groups.specs.Group.{groupValues, groupRowAnswer}
 use Rattle.groups.specs.declared.Kind.{Kind}
 use Rattle.groups.proofs.GroupSum.{groupRowAnswer-values}
@@ -39,13 +39,6 @@ returns : tie.Need-returns
 unfolding rowCallRefusal rowCallExit
 returns c = own-refused _ _ _ _ _ (own (c .before)) (c .if1 .taken)
 
-hand-over-row-requires : tie.Need-hand-over-row-requires
-hand-over-row-requires c κs =
-    let at-own = c .before .before .before .before .before .before in
-    let a = at-own .before .before .before .before .before .before .args in
-    let passed = no-fault (kindCheck (a .kind) .0) unknownKind _ (omega arith) (sym (own (at-own .before)) ∙ at-own .if1 .left) in
-    count-passed orderCount noRefusal (a .values .now) (passed .1) .0
-
 returns-2 : tie.Need-returns-2
 unfolding rowCallRefusal rowCallExit groupRowAnswer
 returns-2 c =
@@ -56,8 +49,10 @@ returns-2 c =
     let a = at-own .before .before .before .before .before .before .args in
     let answered : at-call .group-row .result ≡ groupRowAnswer (kindWith (a .kind)) (a .system) (a .lines .now) =
     rw (← at-kind .kind-with .ensures) (at-call .group-row .ensures) in
-    let whole = firstValues-whole (groupValues (kindWith (a .kind)) (a .system) (a .lines .now)) (groupValues-length _ _ _) in
-    rw (sym (own (at-own .before)) ∙ at-own .if1 .left) (rw (answered, groupRowAnswer-values, whole) at (at-hand .hand-over-row .ensures))
+    let passed = sym (own (at-own .before)) ∙ at-own .if1 .left in
+    let room = count-passed orderCount noRefusal (a .values .now) (no-fault (kindCheck (a .kind) .0) unknownKind _ (omega arith) passed .1) .0 in
+    let whole = wordsFrom-whole (groupValues (kindWith (a .kind)) (a .system) (a .lines .now)) orderCount (groupValues-length _ _ _) in
+    rw passed (rw (answered, groupRowAnswer-values, room, whole) at (at-hand .hand-over-row .ensures))
 
 pub kifsang-row-spec : {M : Type 1} → statement M
 kifsang-row-spec =
@@ -69,6 +64,6 @@ kifsang-row-spec =
     returns
     (λ c κs. search needs)
     (λ c κs. search needs)
-    hand-over-row-requires
+    (λ c κs. search needs)
     (λ c. search needs)
     returns-2)

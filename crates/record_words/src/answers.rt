@@ -1,0 +1,42 @@
+// What a caller receives of an answer: its value, or the values of a row, unless it is refused.
+use lists::number_at;
+use refusals::Answer;
+use refusals::NO_REFUSAL;
+ghost use mathlib.Core.Path.{_≡_};
+ghost use lib.ListN.{length};
+ghost use Rattle.refusals.specs.Answers.{unlessRefused};
+ghost use Rattle.record_words.specs.Parts.{wordsFrom};
+
+// Hands an answer to the caller: its value, unless it is a refusal, and its number.
+pub fn hand_over(answer: Answer, value: &mut u64) -> u32
+    ensures { λ r. ⌜ r ≡ answer .refusal ⌝ }
+    ensures { λ _. ⌜ now (value .exit) ≡ unlessRefused (answer .refusal) (answer .value) (now (value .entry)) ⌝ }
+{
+    let refusal = answer.refusal;
+    if refusal == NO_REFUSAL {
+        *value = answer.value;
+    }
+    refusal
+}
+
+// Writes the values of a row, 0 past the last.
+fn put_row(row: &[u32], values: &mut [u32])
+    ensures { λ _. ⌜ now (values .exit) ≡ wordsFrom 0 (length (now (values .entry))) (now (row .entry)) ⌝ }
+{
+    let mut i = 0;
+    while i < values.len() {
+        values[i] = number_at(row, i);
+        i += 1;
+    }
+}
+
+// Hands the values of a row to the caller, unless they are refused, and the refusal's number.
+pub fn hand_over_row(refusal: u32, row: &[u32], values: &mut [u32]) -> u32
+    ensures { λ r. ⌜ r ≡ refusal ⌝ }
+    ensures { λ _. ⌜ now (values .exit) ≡ unlessRefused refusal (wordsFrom 0 (length (now (values .entry))) (now (row .entry))) (now (values .entry)) ⌝ }
+{
+    if refusal == NO_REFUSAL {
+        put_row(row, values);
+    }
+    refusal
+}
