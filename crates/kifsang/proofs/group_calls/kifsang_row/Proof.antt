@@ -43,7 +43,7 @@ returns-2 : tie.Need-returns-2
 unfolding rowCallRefusal rowCallExit groupRowAnswer
 returns-2 c =
     let at-hand = c .before .before in
-    let at-call = at-hand .before .before .before .before .before in
+    let at-call = at-hand .before .before .before .before .before .before in
     let at-kind = at-call .before in
     let at-own = at-kind .before in
     let a = at-own .before .before .before .before .before .before .args in
