@@ -3,6 +3,7 @@ use mathlib.Core.Path.{_≡_, refl}
 use mathlib.Core.Bool.{Bool, true, false, cond}
 use mathlib.Core.List.{List, [], _∷_, map, map-id}
 use Prim.Native.Nat.{ℕ, _+_}
+use Rattle.algebra.specs.Weighted.{Everywhere}
 use Rattle.rows.specs.declared.Row.{Row}
 use Rattle.rows.specs.Systems.{isSystem}
 use Rattle.observation.specs.BookCalls.{EachAccepted}
@@ -45,3 +46,19 @@ pub each-accepted-carry :
     EachAccepted rowOf Q taken count calls
 each-accepted-carry rowOf P Q taken carry count calls each =
     rw map-id at (each-accepted-map (λ call. call) rowOf P Q taken carry count calls each)
+
+-- a condition on every call of a list
+pub each-accepted-everywhere :
+    {A : Type 0} (rowOf : A → Row) (P : A → Type 0) (taken : ℕ → Row → Bool) (count : ℕ) (calls : List A) →
+    Everywhere P calls →
+    EachAccepted rowOf P taken count calls
+unfolding EachAccepted
+each-accepted-everywhere rowOf P taken count [] every = tt
+each-accepted-everywhere rowOf P taken count (call ∷ calls) every =
+    go (taken count (rowOf call))
+    (each-accepted-everywhere rowOf P taken (count + 1) calls (every .1))
+    (each-accepted-everywhere rowOf P taken count calls (every .1))
+  where
+    go : {X Y : Type 0} (accepts : Bool) → X → Y → cond accepts (P call × X) Y
+    go true later same = (every .0, later)
+    go false later same = same

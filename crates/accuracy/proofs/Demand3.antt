@@ -15,6 +15,7 @@ use Rattle.accuracy.specs.Claim.{WorkedList, reportedBook, ListHolds, De
 use Rattle.accuracy.proofs.GroupDistance.{groups-near}
 use Rattle.accuracy.proofs.WorkedRows.{worked-list-fits, order-book-near}
 use Rattle.accuracy.proofs.Verdicts.{given-verdict}
+use Rattle.accuracy.proofs.ObservedRows.{observed-system, observed-record, observed-worked}
 
 module _ (kind : Kind) (list : CallList) (known : isSystem (list .system) ≡ true) (worked : WorkedList kind list) where
   system-kept : after list .system ≡ list .system
@@ -47,4 +48,15 @@ module _ (kind : Kind) (list : CallList) (known : isSystem (list .system) ≡ tr
       }
 
 pub demand3 : Demand3Holds
-demand3 = record { groups = groups-near; lists = list-holds }
+demand3 =
+    record {
+      groups = groups-near;
+      lists = list-holds;
+      observed = λ kind system recording start windows accepted.
+          let worked = observed-worked kind system recording start windows accepted in
+          record {
+            same-record = observed-record kind system recording start windows accepted;
+            worked = worked;
+            holds = list-holds kind _ (observed-system kind system recording start windows accepted) worked;
+          };
+    }

@@ -4,6 +4,7 @@ pub mod AcceptedCalls
 pub mod Books
 pub mod WorkedRows
 pub mod Verdicts
+pub mod ObservedRows
 pub mod Demand3
 pub mod BooksExist
 pub mod WorkedExample

@@ -17,6 +17,7 @@ use Rattle.observation.specs.Book.{Book}
 use Rattle.observation.specs.Smoothing.{reported, smoothedMargin}
 use Rattle.observation.specs.Calls.{bookAt}
 use Rattle.observation.specs.BookCalls.{EachAccepted, Fed, valueAt}
+use Rattle.observe.specs.Observe.{windowRows, observeRefusal, observeAnswer}
 use Rattle.verdict.specs.declared.Question.{Question}
 use Rattle.verdict.specs.declared.Verdict.{Verdict}
 use Rattle.verdict.specs.declared.Verdict.the-variants.{Within, Close, Over}
@@ -85,7 +86,22 @@ module _ (kind : Kind) (list : CallList) where
     -- for every order and K that is not refused one of the three verdicts is given and keeps its claim
     pub verdicts : (q : Question) → verdictRefusal (after list) q ≡ noRefusal → GivenVerdict q
 
--- Demand 3: the distance of every group value, and for every kind and both systems the claim about every list of calls whose accepted rows are worked from samples.
+-- Windows back to back that `observe` takes: the calls that it makes are a list of document 01, the row of each window in turn. Its rows are worked from samples, so no hypothesis is left.
+module _ (kind : Kind) (system : ℕ) (recording : List ℤ) (start windows : ℕ) where
+  abbrev pub observedList : CallList
+  observedList = record { system = system; rows = windowRows kind system recording start windows }
+
+  pub record ObservedHolds : Type 0 where
+    -- the record that is answered is the one after that list
+    pub same-record : observeAnswer kind system recording start windows .observation ≡ after observedList
+    pub worked : WorkedList kind observedList
+    pub holds : ListHolds kind observedList
+
+-- Demand 3: the distance of every group value; for every kind and both systems the claim about every list of calls whose accepted rows are worked from samples; and so of every observation that is not refused.
 pub record Demand3Holds : Type 0 where
   pub groups : GroupsNear
   pub lists : (kind : Kind) (list : CallList) → isSystem (list .system) ≡ true → WorkedList kind list → ListHolds kind list
+  pub observed :
+      (kind : Kind) (system : ℕ) (recording : List ℤ) (start windows : ℕ) →
+      observeRefusal system recording start windows ≡ noRefusal →
+      ObservedHolds kind system recording start windows

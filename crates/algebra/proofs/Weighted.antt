@@ -6,6 +6,7 @@ use Prim.Native.Nat.{ℕ, zero, suc, _+_, _*_, _≤_, _<_}
 use native.Mathlib.Nat.{le-trans, le-of-lt, lt-of-le-of-lt, mul-le-mul, mul-le-mul-left}
 use native.Mathlib.Omega.{arith, by-contra}
 use lib.IntN.{ℤ, natAbs, _*ℤ_}
+use Rattle.algebra.specs.Lists.{tabulate}
 use Rattle.algebra.specs.Weighted.{sumOver, weightedSquares, Everywhere}
 use Rattle.algebra.proofs.Integer.{natAbs-*ℤ}
 
@@ -100,3 +101,9 @@ module _ {A : Type 0} where
   pub everywhere-append : (F : A → Type 0) (places more : List A) → Everywhere F places → Everywhere F more → Everywhere F (places ++ more)
   everywhere-append F [] more h k = k
   everywhere-append F (p ∷ places) more h k = (h .0, everywhere-append F places more (h .1) k)
+
+  pub everywhere-tabulate : (F : A → Type 0) (n : ℕ) (f : ℕ → A) → ((i : ℕ) → i < n → F (f i)) → Everywhere F (tabulate n f)
+  unfolding tabulate
+  everywhere-tabulate F zero f h = tt
+  everywhere-tabulate F (suc n) f h =
+      everywhere-append F (tabulate n f) (f n ∷ []) (everywhere-tabulate F n f (λ i l. h i (omega arith))) (h n (omega arith), tt)

@@ -1,10 +1,13 @@
 -- What the calls of the observation record and of its verdicts answer: document 01, "The observation record" and "Class A verdicts", after the interface's own checks. The record goes in and out as words.
 use mathlib.Core.List.{List, [], _∷_}
 use Prim.Native.Nat.{ℕ}
+use lib.IntN.{ℤ}
 use Rattle.refusals.specs.Answers.{unlessRefused}
 use Rattle.rows.specs.Orders.{orderCount}
 use Rattle.rows.specs.declared.Row.{Row}
 use Rattle.observation.specs.Calls.{emptyRecord, freshRefusal, withRow, addRowRefusal}
+use Rattle.observation.specs.RecordAfter.{recordAfter}
+use Rattle.observe.specs.Observe.{windowRows, observeRefusal}
 use Rattle.verdict.specs.declared.Question.{Question}
 use Rattle.verdict.specs.declared.Verdict.{Verdict}
 use Rattle.verdict.specs.declared.Verdict.the-variants.{Within, Close, Over}
@@ -12,6 +15,7 @@ use Rattle.verdict.specs.declared.VerdictAnswer.{VerdictAnswer}
 use Rattle.verdict.specs.declared.VerdictAnswer.the-variants.{Given, Refused}
 use Rattle.verdict.specs.Call.{verdictOf, verdictRefusal}
 use Rattle.kifsang.specs.Refusals.{ownFirst, wordCountCheck}
+use Rattle.kifsang.specs.Kinds.{kindWith, kindCheck}
 use Rattle.record_words.specs.Words.{recordWords, recordOf, wordsOf}
 
 -- 102; then the row "fresh record"
@@ -22,6 +26,19 @@ freshCallRefusal system words = ownFirst (wordCountCheck recordWords words ∷ [
 unfoldable pub freshCallExit : ℕ → List ℕ → List ℕ
 freshCallExit system words =
     unlessRefused (freshCallRefusal system words) (wordsOf (emptyRecord system)) words
+
+-- 101; 102; then 1, and for each window in turn 2, 3 and 9
+unfoldable pub observeCallRefusal : ℕ → ℕ → List ℤ → ℕ → ℕ → List ℕ → ℕ
+observeCallRefusal kind system recording start windows words =
+    ownFirst (kindCheck kind ∷ wordCountCheck recordWords words ∷ []) (observeRefusal system recording start windows)
+
+-- the words at exit: those of the record after the windows' rows; on a refusal what they were
+unfoldable pub observeCallExit : ℕ → ℕ → List ℤ → ℕ → ℕ → List ℕ → List ℕ
+observeCallExit kind system recording start windows words =
+    unlessRefused
+    (observeCallRefusal kind system recording start windows words)
+    (wordsOf (recordAfter (emptyRecord system) (windowRows (kindWith kind) system recording start windows)))
+    words
 
 -- a row as the caller lends it
 abbrev pub lentRow : ℕ → List ℕ → Row

@@ -15,14 +15,14 @@ ghost use Rattle.kifsang.specs.GroupCalls.{groupCallRefusal, groupCallEx
 // The kinds have the numbers 0..KIND_COUNT - 1.
 const KIND_COUNT: u32 = 5;
 
-fn is_kind(number: u32) -> bool
+pub(crate) fn is_kind(number: u32) -> bool
     ensures { λ r. ⌜ r ≡ isKind number ⌝ }
 {
     number < KIND_COUNT
 }
 
 // The kind with a number.
-fn kind_with(number: u32) -> Kind
+pub(crate) fn kind_with(number: u32) -> Kind
     ensures { λ r. ⌜ r ≡ kindWith number ⌝ }
 {
     match number {

@@ -1,5 +1,8 @@
 // The observation record and its verdicts, for callers in other languages.
+use crate::UNKNOWN_KIND;
 use crate::WRONG_WORD_COUNT;
+use crate::group_calls::is_kind;
+use crate::group_calls::kind_with;
 use record_words::RECORD_WORDS;
 use record_words::hand_over_record;
 use record_words::read_record;
@@ -15,7 +18,7 @@ use verdict::order_verdict;
 ghost use mathlib.Core.Path.{_≡_};
 ghost use Rattle.verdict.specs.Question.{asked};
 ghost use Rattle.verdict.specs.Call.{refusalNumber};
-ghost use Rattle.kifsang.specs.RecordCalls.{numberLeft, freshCallRefusal, freshCallExit, addRowCallRefusal, addRowCallExit, verdictNumber, verdictCallRefusal, verdictCallExit};
+ghost use Rattle.kifsang.specs.RecordCalls.{numberLeft, freshCallRefusal, freshCallExit, observeCallRefusal, observeCallExit, addRowCallRefusal, addRowCallExit, verdictNumber, verdictCallRefusal, verdictCallExit};
 
 // Writes a record of a system with zeros.
 #[no_mangle]
@@ -28,6 +31,32 @@ pub extern "C" fn kifsang_fresh_record(system: u32, words: &mut [u64]) -> u32
         return own;
     }
     hand_over_record(observation::fresh_record(system), words)
+}
+
+// Writes the record after windows back to back, each with the row of a kind.
+#[no_mangle]
+pub extern "C" fn kifsang_observe(
+    recording: &[i32],
+    start: usize,
+    windows: usize,
+    system: u32,
+    kind: u32,
+    words: &mut [u64],
+) -> u32
+    ensures { λ r. ⌜ r ≡ observeCallRefusal kind system (now (recording .entry)) start windows (now (words .entry)) ⌝ }
+    ensures { λ _. ⌜ now (words .exit) ≡ observeCallExit kind system (now (recording .entry)) start windows (now (words .entry)) ⌝ }
+{
+    let wrong_count = words.len() != RECORD_WORDS;
+    let own = fault_or(
+        !is_kind(kind),
+        UNKNOWN_KIND,
+        fault_or(wrong_count, WRONG_WORD_COUNT, NO_REFUSAL),
+    );
+    if own != NO_REFUSAL {
+        return own;
+    }
+    let answer = observe::observe(recording, start, windows, system, kind_with(kind));
+    hand_over_record(answer, words)
 }
 
 // Adds a row to a record.

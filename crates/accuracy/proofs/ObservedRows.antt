@@ -1,0 +1,55 @@
+-- The rows of an observation that is not refused are worked from samples, and its record is the one after their list.
+use mathlib.Core.Path.{_≡_, refl, _∙_}
+use mathlib.Core.Bool.{true}
+use mathlib.Core.List.{List}
+use Prim.Native.Nat.{ℕ, _<_}
+use lib.IntN.{ℤ}
+use Rattle.algebra.proofs.Weighted.{everywhere-tabulate}
+use Rattle.refusals.specs.Numbers.{noRefusal}
+use Rattle.refusals.proofs.Answers.{unlessRefused-accepted}
+use Rattle.rows.specs.declared.Row.{Row}
+use Rattle.rows.specs.Systems.{isSystem}
+use Rattle.spectrum.specs.Line.{windowAt}
+use Rattle.spectrum.proofs.Accepted as Lines
+use Rattle.groups.specs.declared.Kind.{Kind}
+use Rattle.groups.specs.Group.{windowRow}
+use Rattle.observation.specs.RecordAfter.{recordAfter}
+use Rattle.observation.proofs.SoundRecord.{sound-parts, fresh-of-known}
+use Rattle.observe.specs.Observe.{windowStart, windowRows, observeRefusal, observeAnswer}
+use Rattle.observe.proofs.Observed.{calls-follow, calls-accepted}
+use Rattle.accuracy.specs.CallList.{after}
+use Rattle.accuracy.specs.Claim.{Worked, WorkedList, observedList}
+use Rattle.accuracy.proofs.AcceptedCalls.{each-accepted-everywhere}
+
+module _
+    (kind : Kind) (system : ℕ) (recording : List ℤ) (start windows : ℕ)
+    (accepted : observeRefusal system recording start windows ≡ noRefusal)
+  where
+    pub observed-system : isSystem system ≡ true
+    observed-system =
+        let follows = calls-follow kind system recording start windows in
+        let held = follows .held (follows .refusal-is ∙ accepted) in
+        rw (held .system-is) at (sound-parts _ (held .sound) .system-known)
+
+    pub observed-record : observeAnswer kind system recording start windows .observation ≡ after (observedList kind system recording start windows)
+    unfolding observeAnswer after
+    observed-record = rw (fresh-of-known system observed-system) (unlessRefused-accepted _ _ _ accepted)
+
+    -- the row of each window
+    observed-row : (i : ℕ) → i < windows →
+        let window = windowAt recording (windowStart start i) in
+        Worked kind (windowRow kind system window) window
+    unfolding windowRow
+    observed-row i inside =
+        let call = Lines.accepted recording (windowStart start i) _ (calls-accepted system recording start kind windows i inside accepted .spectrum-accepted) in
+        record {
+          in-range = record { whole-window = call .whole-window; samples = call .in-range };
+          values = refl;
+        }
+
+    pub observed-worked : WorkedList kind (observedList kind system recording start windows)
+    unfolding WorkedList windowRows
+    observed-worked =
+        each-accepted-everywhere (λ row. row) _ _ 0 _
+        (everywhere-tabulate (λ (row : Row). (window : List ℤ) × Worked kind row window) windows _
+        (λ i inside. (windowAt recording (windowStart start i), observed-row i inside)))
