@@ -1,6 +1,6 @@
 // The calls of the harmonic core for C, C++ and Rust programs; include/kifsang.h declares them.
 // Each passes numbers, single-number references and slices on to the proved library. It answers a
-// refusal's number, NO_REFUSAL where it worked, and a refused call leaves every buffer as it was.
+// refusal's number, NO_REFUSAL where it accepts the call, and a refused call leaves every buffer as it was.
 mod column_calls;
 mod group_calls;
 mod line_calls;

@@ -21,8 +21,8 @@ pub struct Observation {
     pub peak: [u64; ORDER_COUNT],
 }
 
-// What fresh_record and add_row answer: NO_REFUSAL with the new record, or a refusal's number with
-// the record unchanged.
+// What a call for a record answers: NO_REFUSAL with the new record, or a refusal's number with the
+// record unchanged; where no record was handed in, with zeros of system 10.
 pub struct RecordAnswer {
     pub refusal: u32,
     pub observation: Observation,

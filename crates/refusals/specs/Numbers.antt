@@ -1,7 +1,7 @@
 -- The refusal numbers of document 01, "Where each refusal is checked", each once for the contracts; src/lib.rt has each once for the code.
 use Prim.Native.Nat.{ℕ}
 
--- the call worked
+-- the call is accepted
 abbrev pub noRefusal : ℕ
 noRefusal = 0
 
@@ -17,7 +17,7 @@ shortWindow = 2
 abbrev pub sampleOutOfRange : ℕ
 sampleOutOfRange = 3
 
--- not 512 lines
+-- not 512 lines, or lines past number 1,023
 abbrev pub wrongLineCount : ℕ
 wrongLineCount = 4
 

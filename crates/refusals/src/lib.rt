@@ -3,7 +3,7 @@
 ghost use mathlib.Core.Bool.{cond};
 ghost use mathlib.Core.Path.{_≡_};
 
-// The call worked: nothing is refused.
+// The call is accepted: nothing is refused.
 pub const NO_REFUSAL: u32 = 0;
 // The system is neither 10 nor 12 cycles in a window.
 pub const UNKNOWN_SYSTEM: u32 = 1;
@@ -11,7 +11,7 @@ pub const UNKNOWN_SYSTEM: u32 = 1;
 pub const SHORT_WINDOW: u32 = 2;
 // A sample of the window lies outside -131,071..131,071.
 pub const SAMPLE_OUT_OF_RANGE: u32 = 3;
-// A buffer of lines that does not hold 512.
+// A buffer of lines that does not hold 512, or that reaches past line 1,023.
 pub const WRONG_LINE_COUNT: u32 = 4;
 // A spectral line above 2^59.
 pub const LINE_TOO_LARGE: u32 = 5;
