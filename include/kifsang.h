@@ -8,15 +8,18 @@
  *
  * From samples to verdicts
  *
- *     kifsang_spectrum       a window of 2,048 samples    ->  512 lines
- *     kifsang_row            the lines of a window        ->  the 40 values of a kind, a row
- *     kifsang_fresh_record   a system                     ->  a record with no window
- *     kifsang_add_row        a record and a row           ->  the record with one window more
+ *     kifsang_observe        windows back to back         ->  the record after them
  *     kifsang_verdict        a record and an order        ->  within, close or over
  *
- *     The first four in one call, for windows that stand back to back in memory; and any lines alone:
+ *     The same record a window at a time, where memory holds no more:
  *
- *     kifsang_observe        windows and a system         ->  the record after them
+ *     kifsang_fresh_record   a system                     ->  a record with no window
+ *     kifsang_spectrum       a window of 2,048 samples    ->  512 lines
+ *     kifsang_row            the lines of a window        ->  the 40 values of a kind, a row
+ *     kifsang_add_row        a record and a row           ->  the record with one window more
+ *
+ *     Any of a window's lines 0..1023 alone:
+ *
  *     kifsang_lines_from     a window and a first line    ->  so many lines from that one on
  *
  * Samples and their rate
