@@ -1,11 +1,9 @@
 -- Demand 3 for the exported calls: the words follow the list of document 01, and demand 3 holds of the record after it.
 use mathlib.Core.Path.{_≡_, ap, _∙_, subst}
-use mathlib.Core.List.{List, [], _∷_, _++_, append-assoc}
+use mathlib.Core.List.{List, [], _∷_}
 use mathlib.Core.Option.{none}
 use Prim.Native.Nat.{ℕ, _+_, _-_, _<_, _≤_}
 use native.Mathlib.Omega.{arith}
-use lib.ListN.{length, getD, List·getD-append}
-use lib.Seq.{getD-append-add}
 use Rattle.refusals.specs.Numbers.{noRefusal}
 use Rattle.refusals.specs.Answers.{firstFault}
 use Rattle.groups.specs.declared.Kind.{Kind}
@@ -18,30 +16,15 @@ use Rattle.verdict.specs.Call.{verdictRefusal}
 use Rattle.accuracy.specs.Claim.{WorkedList, ListHolds, after, reportedBook}
 use Rattle.accuracy.proofs.Demand3.{demand3}
 use Rattle.kifsang.specs.Refusals.{wordCountCheck}
-use Rattle.kifsang.specs.Words.{recordWords, recordOf, wordsOf}
+use Rattle.record_words.specs.Words.{recordWords, wordsOf, recordOf, Whole}
 use Rattle.kifsang.specs.RecordCalls.{verdictCallRefusal, verdictCallExit}
 use Rattle.kifsang.proofs.Handed.{own-first-none}
-use Rattle.kifsang.proofs.RecordWords.{record-of-words}
+use Rattle.record_words.proofs.Words.{record-of-words, smoothed-word}
 use Rattle.kifsang.proofs.VerdictCases.{given-case}
 use Rattle.exported_accuracy.specs.Calls.{Begun, wordsAfter}
 use Rattle.exported_accuracy.specs.Claim.{smoothedWord, CalledVerdict, WordsHold, ExportedDemand3Holds}
-use Rattle.exported_accuracy.proofs.WordsFollow.{Follows, FollowsBegun, Whole, list-whole, calls-follow}
+use Rattle.exported_accuracy.proofs.WordsFollow.{Follows, FollowsBegun, list-whole, calls-follow}
 use Rattle.exported_accuracy.proofs.CalledGroups.{called-group, called-row}
-
--- the word of an order's smoothed value
-smoothed-word :
-    (o : Observation) (order : ℕ) →
-    length (o .smoothed) ≡ orderCount →
-    0 < order →
-    order ≤ orderCount →
-    smoothedWord (wordsOf o) order ≡ getD (o .smoothed) (order - 1) 0
-unfolding wordsOf
-smoothed-word o order whole positive le =
-    let rest = o .smoothed ++ o .sum ++ o .peak in
-    let inside : order - 1 < length (o .smoothed) = omega arith in
-    getD-append-add (o .system ∷ o .windows ∷ []) rest (order - 1) 0 ∙
-    (ap (λ (l : List ℕ). getD l (order - 1) 0) (append-assoc (o .smoothed) (o .sum) (o .peak)) ∙
-    List·getD-append (o .smoothed) (o .sum ++ o .peak) 0 (order - 1) inside)
 
 -- the record after the list
 abbrev recordAt : Kind → Begun → Observation
@@ -60,7 +43,7 @@ module _
     parts = list-whole list (follows .known)
 
     record-held : recordOf words ≡ recordAt kind list
-    record-held = ap recordOf words-held ∙ record-of-words (recordAt kind list) (parts .smoothed) (parts .sum) (parts .peak)
+    record-held = ap recordOf words-held ∙ record-of-words (recordAt kind list) parts
 
     claimed : ListHolds kind (list .system) (list .rows)
     claimed = demand3 .lists kind (list .system) (follows .known) (list .rows) worked
@@ -73,7 +56,7 @@ module _
     unfolding bookAt
     smoothed-held order positive le =
         ap (λ (l : List ℕ). smoothedWord l order) words-held ∙
-        (smoothed-word (recordAt kind list) order (parts .smoothed) positive le ∙
+        (smoothed-word (recordAt kind list) (order - 1) parts (omega arith) ∙
         ap (λ (book : Book reported). book .smoothed) (claimed .same-books order positive le))
 
     called-verdict :

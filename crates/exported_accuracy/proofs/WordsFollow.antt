@@ -8,7 +8,7 @@ use Prim.Native.Nat.{ℕ, _≤_}
 use native.Mathlib.Omega.{arith}
 use native.Mathlib.Decide.{decLe}
 use lib.Dec.{eqb, leb}
-use lib.ListN.{length, take, drop, length-append, length-take, take-append-drop, drop-of-length-le}
+use lib.ListN.{length, take, drop, length-take, take-append-drop, drop-of-length-le}
 use lib.Seq.{take-all}
 use borrow.Author.Tests.{eq-eqb, ne-eqb, le-leb, lt-leb}
 use Rattle.algebra.proofs.Lists.{length-tabulate}
@@ -23,31 +23,21 @@ use Rattle.observation.specs.CallList.{recordAfter}
 use Rattle.observation.proofs.CallList.{record-after-snoc}
 use Rattle.observation.proofs.SoundRecord.{fresh-of-known}
 use Rattle.kifsang.specs.Refusals.{wrongWordCount, ownFirst}
-use Rattle.kifsang.specs.Words.{recordWords, recordOf, wordsOf}
+use Rattle.record_words.specs.Words.{recordWords, partsOf, wordsOf, recordOf, Whole}
 use Rattle.kifsang.specs.RecordCalls.{lentRow, freshCallRefusal, freshCallExit, addRowCallRefusal, addRowCallExit}
-use Rattle.kifsang.proofs.RecordWords.{record-of-words}
+use Rattle.record_words.proofs.Words.{record-of-words, wordsOf-length}
 use Rattle.exported_accuracy.specs.Calls.{Asked, freshRecord, addRow, askVerdict, Call, Begun}
 use Rattle.exported_accuracy.specs.Calls.{leftBy, wordsAtExit, wordsAfter, withCall, listAsked, listAtExit, listAfter}
 
 -- ---- records with 40 values in each part
 
-pub record Whole (o : Observation) : Type 0 where
-  pub smoothed : length (o .smoothed) ≡ orderCount
-  pub sum : length (o .sum) ≡ orderCount
-  pub peak : length (o .peak) ≡ orderCount
-
 empty-whole : (system : ℕ) → Whole (emptyRecord system)
-unfolding emptyRecord
-empty-whole system = record { smoothed = refl; sum = refl; peak = refl }
+unfolding emptyRecord Whole partsOf
+empty-whole system = refl
 
 with-row-whole : (o : Observation) (row : Row) → Whole (withRow o row)
-unfolding withRow
-with-row-whole o row =
-    record {
-      smoothed = length-tabulate orderCount _;
-      sum = length-tabulate orderCount _;
-      peak = length-tabulate orderCount _;
-    }
+unfolding withRow Whole partsOf
+with-row-whole o row = simp length-tabulate
 
 answer-whole : (o : Observation) (row : Row) → Whole o → Whole (addRowAnswer o row .observation)
 unfolding addRowAnswer
@@ -61,10 +51,6 @@ record-after-whole : (o : Observation) (rows : List Row) → Whole o → Whole (
 unfolding recordAfter
 record-after-whole o [] before = before
 record-after-whole o (row ∷ rows) before = record-after-whole (addRowAnswer o row .observation) rows (answer-whole o row before)
-
-words-length : (o : Observation) → Whole o → length (wordsOf o) ≡ recordWords
-unfolding wordsOf
-words-length o parts = simp length-append (omega arith)
 
 -- ---- the invariant
 
@@ -85,7 +71,7 @@ list-whole list known = record-after-whole _ (list .rows) (rw (fresh-of-known (l
 
 follows-length : (begun : Option Begun) (words : List ℕ) → FollowsBegun begun words → length words ≡ recordWords
 follows-length none words whole = whole
-follows-length (some list) words follows = ap length (follows .held) ∙ words-length _ (list-whole list (follows .known))
+follows-length (some list) words follows = ap length (follows .held) ∙ wordsOf-length _ (list-whole list (follows .known))
 
 -- ---- one call
 
@@ -131,12 +117,11 @@ unfolding withCall
 row-follows none words row whole = either (eqb (addRowRefusal (recordOf words) row) noRefusal)
   where
     either : (worked : Bool) → length (cond worked (wordsOf (withRow (recordOf words) row)) words) ≡ recordWords
-    either true = words-length _ (with-row-whole (recordOf words) row)
+    either true = wordsOf-length _ (with-row-whole (recordOf words) row)
     either false = whole
 row-follows (some list) words row follows =
     let o = recordOfList list in
-    let parts = list-whole list (follows .known) in
-    let same : recordOf words ≡ o = rw (follows .held) (record-of-words o (parts .smoothed) (parts .sum) (parts .peak)) in
+    let same : recordOf words ≡ o = rw (follows .held) (record-of-words o (list-whole list (follows .known))) in
     record {
       known = follows .known;
       held = row-words words row o same (follows .held) ∙ ap wordsOf (sym (record-after-snoc _ (list .rows) row));

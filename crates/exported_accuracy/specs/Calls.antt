@@ -8,7 +8,7 @@ use lib.ListN.{length, take, drop}
 use Rattle.rows.specs.Systems.{isSystem}
 use Rattle.rows.specs.Orders.{orderCount}
 use Rattle.rows.specs.declared.Row.{Row}
-use Rattle.kifsang.specs.Words.{recordWords}
+use Rattle.record_words.specs.Words.{recordWords}
 use Rattle.kifsang.specs.RecordCalls.{lentRow, freshCallExit, addRowCallExit}
 
 -- what is asked of a record's words

@@ -18,7 +18,7 @@ use Rattle.accuracy.specs.Distance.{ValueNear}
 use Rattle.accuracy.specs.Claim.{Worked, WorkedList, LBook, UBook, after, state, Keeps, ListHolds}
 use Rattle.kifsang.specs.Kinds.{kindWith}
 use Rattle.kifsang.specs.GroupCalls.{groupCallRefusal, groupCallExit, rowCallRefusal, rowCallExit}
-use Rattle.kifsang.specs.Words.{smoothedPlace, recordWords, wordsOf}
+use Rattle.record_words.specs.Words.{smoothedPlace, recordWords, wordsOf}
 use Rattle.kifsang.specs.RecordCalls.{lentRow, verdictNumber, verdictCallRefusal, verdictCallExit}
 use Rattle.exported_accuracy.specs.Calls.{Call, Begun, wordsAfter, listAfter}
 
