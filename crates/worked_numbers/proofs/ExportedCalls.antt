@@ -31,7 +31,8 @@ use Rattle.columns.specs.Calls.{columnReadAnswer}
 use Rattle.listing.specs.Listing.{header, orderLine, orderText, ordersText, listingText, listingRefusal, listingExit}
 use Rattle.kifsang.specs.Kinds.{kinds, isKind, kindWith}
 use Rattle.kifsang.specs.GroupCalls.{groupCallRefusal, groupCallExit, rowCallRefusal, rowCallExit, distortionCallRefusal, distortionCallExit}
-use Rattle.kifsang.specs.Words.{recordOf, wordsOf}
+use Rattle.record_words.specs.Parts.{wordsFrom, partsFrom, joined}
+use Rattle.record_words.specs.Words.{partsOf, ofParts, wordsOf, recordOf}
 use Rattle.kifsang.specs.ColumnCalls.{columnCallExit}
 use Rattle.kifsang.specs.ListingCall.{listingCallRefusal, listingCallExit, listingCallCountExit}
 use Rattle.kifsang.specs.RecordCalls.{freshCallRefusal, freshCallExit, addRowCallRefusal, addRowCallExit, verdictNumber, verdictCallRefusal, verdictCallExit}
@@ -113,7 +114,7 @@ verdicts-worked :
     (verdictFor (recordWith 1 0) 40 (2 ^ 28 + 1), (11, 77)) ∷
     (verdictFor (recordWith 1 0) 40 (2 ^ 28), (0, 1)) ∷
     [])
-unfolding Alike verdictFor recordWith verdictCallRefusal verdictCallExit verdictNumber recordOf verdictRefusal verdictOf averageOf peakOf combined raised atMost isOver isWithin limitInUnits peakLimitInUnits limitOf figureIn ownFigures overOrder whole scale divide isSound isSystem noneAbove allZero anyOf
+unfolding Alike verdictFor recordWith verdictCallRefusal verdictCallExit verdictNumber recordOf ofParts partsFrom wordsFrom tabulate verdictRefusal verdictOf averageOf peakOf combined raised atMost isOver isWithin limitInUnits peakLimitInUnits limitOf figureIn ownFigures overOrder whole scale divide isSound isSystem noneAbove allZero anyOf
 verdicts-worked = refl
 
 -- ---- kifsang_row
@@ -149,7 +150,7 @@ fresh-records-worked :
     (freshFor 11 (replicate 123 7), (102, replicate 123 7)) ∷
     (freshFor 11 (replicate 122 7), (1, replicate 122 7)) ∷
     [])
-unfolding Alike freshFor freshCallRefusal freshCallExit freshRefusal isSystem wordsOf emptyRecord
+unfolding Alike freshFor freshCallRefusal freshCallExit freshRefusal isSystem wordsOf partsOf joined emptyRecord
 fresh-records-worked = refl
 
 -- ---- kifsang_add_row
@@ -177,7 +178,7 @@ add-rows-worked :
     (addFor (recordWith 45000 7) 12 (replicate 40 1), (8, recordWith 45000 7)) ∷
     (addFor (recordWith 45000 7) 10 (replicate 40 1), (9, recordWith 45000 7)) ∷
     [])
-unfolding Alike addFor recordWith addRowCallRefusal addRowCallExit recordOf wordsOf addRowRefusal rowChecks withRow nextBook bookAt bookStep smoothedNext smoothedValue nearest tabulate isSound isSystem noneAbove allZero anyOf
+unfolding Alike addFor recordWith addRowCallRefusal addRowCallExit recordOf ofParts partsFrom wordsFrom wordsOf partsOf joined addRowRefusal rowChecks withRow nextBook bookAt bookStep smoothedNext smoothedValue nearest tabulate isSound isSystem noneAbove allZero anyOf
 add-rows-worked = refl
 
 -- ---- kifsang_read_column
