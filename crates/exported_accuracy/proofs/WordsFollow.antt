@@ -165,8 +165,8 @@ module _ (begun : Option CallList) (words : List ℕ) (follows : FollowsBegun be
           (ownFirst ((not known, unknownKind) ∷ []) (observeRefusal system recording start windows))
           (wordsOf (recordAfter (emptyRecord system) (windowRows (kindWith number) system recording start windows)))
           words)
-      go true true e = rw (eqb-true _ _ e) (observed-follows number system recording start windows (eqb-true _ _ e))
-      go true false e = rw (e, e) follows
+      go true true e = rw e (observed-follows number system recording start windows (eqb-true _ _ e))
+      go true false e = rw e follows
       go false accepted e = follows
 
   add-row-follows :
