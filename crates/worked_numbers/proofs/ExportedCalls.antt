@@ -20,6 +20,10 @@ use Rattle.observation.specs.Soundness.{noneAbove, allZero, isSound}
 use Rattle.observation.specs.Book.{smoothedNext, bookStep}
 use Rattle.observation.specs.Smoothing.{smoothedValue}
 use Rattle.observation.specs.Calls.{emptyRecord, freshRefusal, bookAt, nextBook, withRow, rowChecks, addRowRefusal}
+use Rattle.observation.specs.RecordAfter.{recordAfter}
+use Rattle.spectrum.specs.Line.{windowAt}
+use Rattle.spectrum.specs.Spectrum.{outOfRange}
+use Rattle.observe.specs.Observe.{windowRows, observeChecks, observeRefusal}
 use Rattle.verdict.specs.Question.{asked}
 use Rattle.verdict.specs.Limit.{ownFigures, figureIn, limitOf, overOrder, limitInUnits, peakLimitInUnits}
 use Rattle.verdict.specs.Tests.{raised, atMost, isWithin, isOver}
@@ -35,7 +39,7 @@ use Rattle.record_words.specs.Parts.{wordsFrom, partsFrom, joined}
 use Rattle.record_words.specs.Words.{partsOf, ofParts, wordsOf, recordOf}
 use Rattle.kifsang.specs.ColumnCalls.{columnCallExit}
 use Rattle.kifsang.specs.ListingCall.{listingCallRefusal, listingCallExit, listingCallCountExit}
-use Rattle.kifsang.specs.RecordCalls.{freshCallRefusal, freshCallExit, addRowCallRefusal, addRowCallExit, verdictNumber, verdictCallRefusal, verdictCallExit}
+use Rattle.kifsang.specs.RecordCalls.{freshCallRefusal, freshCallExit, observeCallRefusal, observeCallExit, addRowCallRefusal, addRowCallExit, verdictNumber, verdictCallRefusal, verdictCallExit}
 
 -- each row is what a call answers and leaves, and the same in figures
 Alike : {A : Type 0} → List ((ℕ × A) × (ℕ × A)) → Type 0
@@ -152,6 +156,27 @@ fresh-records-worked :
     [])
 unfolding Alike freshFor freshCallRefusal freshCallExit freshRefusal isSystem wordsOf partsOf joined emptyRecord
 fresh-records-worked = refl
+
+-- ---- kifsang_observe
+
+observeFor : ℕ → ℕ → List ℤ → ℕ → ℕ → List ℕ → ℕ × List ℕ
+observeFor kind system recording start windows words =
+    (observeCallRefusal kind system recording start windows words, observeCallExit kind system recording start windows words)
+
+observations-worked :
+    Alike
+    -- no window: a fresh record
+    ((observeFor 1 12 [] 9 0 (replicate 122 7), (0, 12 ∷ replicate 121 0)) ∷
+    -- 101 before 102 before 1 before 2 before 3
+    (observeFor 5 11 [] 0 1 (replicate 121 7), (101, replicate 121 7)) ∷
+    (observeFor 4 11 [] 0 1 (replicate 121 7), (102, replicate 121 7)) ∷
+    (observeFor 4 11 [] 0 1 (replicate 123 7), (102, replicate 123 7)) ∷
+    (observeFor 4 11 [] 0 1 (replicate 122 7), (1, replicate 122 7)) ∷
+    (observeFor 4 10 (replicate 2048 (pos 131072)) 1 1 (replicate 122 7), (2, replicate 122 7)) ∷
+    (observeFor 4 10 (replicate 2048 (pos 131072)) 0 2 (replicate 122 7), (3, replicate 122 7)) ∷
+    [])
+unfolding Alike observeFor observeCallRefusal observeCallExit isKind kindWith kinds observeRefusal observeChecks windowRows tabulate isSystem windowAt outOfRange anyOf recordAfter emptyRecord wordsOf partsOf joined
+observations-worked = refl
 
 -- ---- kifsang_add_row
 
