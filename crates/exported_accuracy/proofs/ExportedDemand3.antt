@@ -1,49 +1,33 @@
 -- Demand 3 for the exported calls: the words follow the list of document 01, and demand 3 holds of the record after it.
 use mathlib.Core.Path.{_≡_, ap, _∙_, subst}
-use mathlib.Core.List.{List, [], _∷_, _++_, append-assoc}
+use mathlib.Core.List.{List, [], _∷_}
 use mathlib.Core.Option.{none}
-use Prim.Native.Nat.{ℕ, _+_, _-_, _<_, _≤_}
+use Prim.Native.Nat.{ℕ, _-_}
 use native.Mathlib.Omega.{arith}
-use lib.ListN.{length, getD, List·getD-append}
-use lib.Seq.{getD-append-add}
+use lib.IntN.{ℤ}
 use Rattle.refusals.specs.Numbers.{noRefusal}
 use Rattle.refusals.specs.Answers.{firstFault}
 use Rattle.groups.specs.declared.Kind.{Kind}
-use Rattle.rows.specs.Orders.{orderCount}
 use Rattle.observation.specs.Book.{Book}
 use Rattle.observation.specs.Smoothing.{reported}
-use Rattle.observation.specs.declared.Observation.{Observation}
 use Rattle.observation.specs.Calls.{bookAt}
 use Rattle.verdict.specs.declared.Question.{Question}
 use Rattle.verdict.specs.Call.{verdictRefusal}
 use Rattle.accuracy.specs.Distance.{EveryOrder}
 use Rattle.accuracy.specs.CallList.{CallList, after}
-use Rattle.accuracy.specs.Claim.{WorkedList, ListHolds, reportedBook}
+use Rattle.accuracy.specs.Claim.{WorkedList, ListHolds, reportedBook, observedList}
 use Rattle.accuracy.proofs.Demand3.{demand3}
 use Rattle.kifsang.specs.Refusals.{wordCountCheck}
-use Rattle.kifsang.specs.Words.{recordWords, wordsOf}
-use Rattle.kifsang.specs.RecordCalls.{verdictCallRefusal, verdictCallExit}
+use Rattle.record_words.specs.Words.{recordWords}
+use Rattle.record_words.proofs.Words.{smoothed-word}
+use Rattle.kifsang.specs.Kinds.{kindWith, kindCheck}
+use Rattle.kifsang.specs.RecordCalls.{observeCallRefusal, observeCallExit, verdictCallRefusal, verdictCallExit}
 use Rattle.kifsang.proofs.Handed.{own-first-none}
 use Rattle.kifsang.proofs.VerdictCases.{given-case}
 use Rattle.exported_accuracy.specs.Calls.{wordsAfter}
-use Rattle.exported_accuracy.specs.Claim.{smoothedWord, CalledVerdict, WordsHold, ExportedDemand3Holds}
-use Rattle.exported_accuracy.proofs.WordsFollow.{Follows, FollowsBegun, after-whole, record-held, calls-follow}
+use Rattle.exported_accuracy.specs.Claim.{smoothedWord, CalledVerdict, WordsHold, CalledObserve, ExportedDemand3Holds}
+use Rattle.exported_accuracy.proofs.WordsFollow.{Follows, FollowsBegun, after-whole, record-held, observed-follows, calls-follow}
 use Rattle.exported_accuracy.proofs.CalledGroups.{called-group, called-row}
-
--- the word of an order's smoothed value
-smoothed-word :
-    (o : Observation) (order : ℕ) →
-    length (o .smoothed) ≡ orderCount →
-    0 < order →
-    order ≤ orderCount →
-    smoothedWord (wordsOf o) order ≡ getD (o .smoothed) (order - 1) 0
-unfolding wordsOf
-smoothed-word o order whole positive le =
-    let rest = o .smoothed ++ o .sum ++ o .peak in
-    let inside : order - 1 < length (o .smoothed) = omega arith in
-    getD-append-add (o .system ∷ o .windows ∷ []) rest (order - 1) 0 ∙
-    (ap (λ (l : List ℕ). getD l (order - 1) 0) (append-assoc (o .smoothed) (o .sum) (o .peak)) ∙
-    List·getD-append (o .smoothed) (o .sum ++ o .peak) 0 (order - 1) inside)
 
 module _
     (kind : Kind) (list : CallList) (words : List ℕ)
@@ -56,7 +40,7 @@ module _
     unfolding bookAt
     smoothed-held order positive le =
         rw (follows .held)
-        (smoothed-word (after list) order (after-whole list (follows .known) .smoothed) positive le ∙
+        (smoothed-word (after list) (order - 1) (after-whole list (follows .known)) (omega arith) ∙
         ap (λ (book : Book reported). book .smoothed) (claimed .same-books order positive le))
 
     called-verdict :
@@ -88,6 +72,17 @@ module _
           verdicts = called-verdict;
         }
 
+-- the words that an observation leaves, where neither the own checks nor the library's refuse it
+observed-words :
+    (recording : List ℤ) (start number system windows : ℕ) (before : List ℕ) → CalledObserve recording start number system windows before
+unfolding observeCallRefusal observeCallExit
+observed-words recording start number system windows before asked =
+    let passed = own-first-none (firstFault (kindCheck number ∷ wordCountCheck recordWords before ∷ [])) _ asked in
+    rw asked
+    (words-hold (kindWith number) (observedList (kindWith number) system recording start windows) _
+    (observed-follows number system recording start windows passed)
+    (demand3 .observed (kindWith number) system recording start windows passed .worked))
+
 pub exported-demand3 : ExportedDemand3Holds
 exported-demand3 =
     record {
@@ -96,4 +91,5 @@ exported-demand3 =
       lists = λ kind words whole calls list came worked.
           let follow = calls-follow calls none words whole in
           words-hold kind list _ (subst (λ begun. FollowsBegun begun (wordsAfter words calls)) came follow) worked;
+      observed = λ recording start number system windows before asked. observed-words recording start number system windows before asked;
     }

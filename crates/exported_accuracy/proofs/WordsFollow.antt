@@ -1,16 +1,17 @@
 -- The words of a record follow the list of document 01 that the calls have come to.
 -- The invariant: before the first fresh record there are 122 words, any; after it they are the words of the record after the list.
 use mathlib.Core.Path.{_≡_, refl, sym, ap}
-use mathlib.Core.Bool.{Bool, true, false, cond, not}
+use mathlib.Core.Bool.{Bool, true, false, cond, not, _&&_}
 use mathlib.Core.List.{List, [], _∷_, _++_, append-nil}
 use mathlib.Core.Option.{Option, none, some}
 use Prim.Native.Nat.{ℕ, _≤_}
 use native.Mathlib.Omega.{arith}
 use native.Mathlib.Decide.{decLe}
 use lib.Dec.{eqb, leb}
-use lib.ListN.{length, take, drop, length-append, length-take, take-append-drop, drop-of-length-le}
+use lib.IntN.{ℤ}
+use lib.ListN.{length, take, drop, length-take, take-append-drop, drop-of-length-le}
 use lib.Seq.{take-all}
-use borrow.Author.Tests.{eq-eqb, ne-eqb, le-leb, lt-leb}
+use borrow.Author.Tests.{eqb-true, eq-eqb, ne-eqb, le-leb, lt-leb}
 use Rattle.algebra.proofs.Lists.{length-tabulate}
 use Rattle.refusals.specs.Numbers.{noRefusal, unknownSystem}
 use Rattle.refusals.specs.Answers.{firstFault, unlessRefused}
@@ -22,12 +23,16 @@ use Rattle.observation.specs.Calls.{emptyRecord, freshRefusal, withRow, addRowR
 use Rattle.observation.specs.RecordAfter.{recordAfter}
 use Rattle.observation.proofs.RecordAfter.{record-after-snoc}
 use Rattle.observation.proofs.SoundRecord.{fresh-of-known}
+use Rattle.observe.specs.Observe.{windowRows, observeRefusal}
 use Rattle.accuracy.specs.CallList.{CallList, after}
-use Rattle.kifsang.specs.Refusals.{wrongWordCount, ownFirst}
-use Rattle.kifsang.specs.Words.{recordWords, recordOf, wordsOf}
-use Rattle.kifsang.specs.RecordCalls.{lentRow, freshCallRefusal, freshCallExit, addRowCallRefusal, addRowCallExit}
-use Rattle.kifsang.proofs.RecordWords.{record-of-words}
-use Rattle.exported_accuracy.specs.Calls.{Asked, freshRecord, addRow, askVerdict, Call}
+use Rattle.accuracy.specs.Claim.{observedList}
+use Rattle.accuracy.proofs.ObservedRows.{observed-system}
+use Rattle.kifsang.specs.Refusals.{unknownKind, wrongWordCount, wordCountCheck, ownFirst}
+use Rattle.kifsang.specs.Kinds.{isKind, kindWith}
+use Rattle.record_words.specs.Words.{recordWords, partsOf, wordsOf, recordOf, Whole}
+use Rattle.record_words.proofs.Words.{record-of-words, wordsOf-length}
+use Rattle.kifsang.specs.RecordCalls.{lentRow, freshCallRefusal, freshCallExit, observeCallRefusal, observeCallExit, addRowCallRefusal, addRowCallExit}
+use Rattle.exported_accuracy.specs.Calls.{Asked, freshRecord, observeWindows, addRow, askVerdict, Call}
 use Rattle.exported_accuracy.specs.Calls.{leftBy, wordsAtExit, wordsAfter, withCall, listAsked, listAtExit, listAfter}
 
 -- ---- what a call leaves
@@ -46,33 +51,19 @@ by-refusal P refusal {accepted} {unchanged} success refused = either (eqb refusa
 
 -- ---- records with 40 values in each part
 
-pub record Whole (o : Observation) : Type 0 where
-  pub smoothed : length (o .smoothed) ≡ orderCount
-  pub sum : length (o .sum) ≡ orderCount
-  pub peak : length (o .peak) ≡ orderCount
-
 empty-whole : (system : ℕ) → Whole (emptyRecord system)
-unfolding emptyRecord
-empty-whole system = record { smoothed = refl; sum = refl; peak = refl }
+unfolding emptyRecord Whole partsOf
+empty-whole system = refl
 
 with-row-whole : (o : Observation) (row : Row) → Whole (withRow o row)
-unfolding withRow
-with-row-whole o row =
-    record {
-      smoothed = length-tabulate orderCount _;
-      sum = length-tabulate orderCount _;
-      peak = length-tabulate orderCount _;
-    }
+unfolding withRow Whole partsOf
+with-row-whole o row = simp length-tabulate
 
 record-after-whole : (o : Observation) (rows : List Row) → Whole o → Whole (recordAfter o rows)
 unfolding recordAfter addRowAnswer
 record-after-whole o [] before = before
 record-after-whole o (row ∷ rows) before =
     record-after-whole (addRowAnswer o row .observation) rows (by-refusal Whole (addRowRefusal o row) (with-row-whole o row) before)
-
-words-length : (o : Observation) → Whole o → length (wordsOf o) ≡ recordWords
-unfolding wordsOf
-words-length o parts = simp length-append (omega arith)
 
 -- ---- the invariant
 
@@ -91,12 +82,11 @@ after-whole list known = record-after-whole _ (list .rows) (rw (fresh-of-known (
 -- the words hold the record after the list
 pub record-held : (list : CallList) (words : List ℕ) → Follows list words → recordOf words ≡ after list
 record-held list words follows =
-    let parts = after-whole list (follows .known) in
-    rw (follows .held) (record-of-words (after list) (parts .smoothed) (parts .sum) (parts .peak))
+    rw (follows .held) (record-of-words (after list) (after-whole list (follows .known)))
 
 follows-length : (begun : Option CallList) (words : List ℕ) → FollowsBegun begun words → length words ≡ recordWords
 follows-length none words whole = whole
-follows-length (some list) words follows = rw (follows .held) (words-length _ (after-whole list (follows .known)))
+follows-length (some list) words follows = rw (follows .held) (wordsOf-length _ (after-whole list (follows .known)))
 
 -- ---- one call
 
@@ -111,7 +101,7 @@ row-follows :
 unfolding withCall after addRowAnswer
 row-follows none words row whole =
     by-refusal (λ (l : List ℕ). length l ≡ recordWords) (addRowRefusal (recordOf words) row)
-    (words-length _ (with-row-whole (recordOf words) row))
+    (wordsOf-length _ (with-row-whole (recordOf words) row))
     whole
 row-follows (some list) words row follows =
     record {
@@ -126,6 +116,18 @@ row-follows (some list) words row follows =
         wordsOf (cond accepted (withRow (after list) row) (after list))
     either true = refl
     either false = refl
+
+-- an observation that is not refused is the list of its windows' rows
+pub observed-follows :
+    (number system : ℕ) (recording : List ℤ) (start windows : ℕ) →
+    observeRefusal system recording start windows ≡ noRefusal →
+    Follows
+    (observedList (kindWith number) system recording start windows)
+    (wordsOf (recordAfter (emptyRecord system) (windowRows (kindWith number) system recording start windows)))
+unfolding after
+observed-follows number system recording start windows accepted =
+    let known = observed-system (kindWith number) system recording start windows accepted in
+    record { known = known; held = rw (fresh-of-known system known) }
 
 module _ (begun : Option CallList) (words : List ℕ) (follows : FollowsBegun begun words) where
   whole : length words ≡ recordWords
@@ -143,6 +145,29 @@ module _ (begun : Option CallList) (words : List ℕ) (follows : FollowsBegun be
           (unlessRefused (firstFault ((not known, unknownSystem) ∷ [])) (wordsOf (emptyRecord system)) words)
       go true e = record { known = e; held = ap wordsOf (sym (fresh-of-known system e)) }
       go false e = follows
+
+  observe-follows :
+      (number system : ℕ) (recording : List ℤ) (start windows : ℕ) →
+      FollowsBegun (listAsked begun (observeWindows number system recording start windows)) (observeCallExit number system recording start windows words)
+  unfolding listAsked observeCallExit observeCallRefusal
+  observe-follows number system recording start windows =
+      rw (eq-eqb (length words) recordWords whole) (go (isKind number) (eqb (observeRefusal system recording start windows) noRefusal) refl)
+    where
+      list : CallList
+      list = observedList (kindWith number) system recording start windows
+
+      go :
+          (known accepted : Bool) →
+          eqb (observeRefusal system recording start windows) noRefusal ≡ accepted →
+          FollowsBegun
+          (cond (known && eqb (observeRefusal system recording start windows) noRefusal) (some list) begun)
+          (unlessRefused
+          (ownFirst ((not known, unknownKind) ∷ []) (observeRefusal system recording start windows))
+          (wordsOf (recordAfter (emptyRecord system) (windowRows (kindWith number) system recording start windows)))
+          words)
+      go true true e = rw e (observed-follows number system recording start windows (eqb-true _ _ e))
+      go true false e = rw e follows
+      go false accepted e = follows
 
   add-row-follows :
       (system : ℕ) (values : List ℕ) → FollowsBegun (listAsked begun (addRow system values)) (addRowCallExit words system values)
@@ -166,13 +191,25 @@ module _ (begun : Option CallList) (words : List ℕ) (follows : FollowsBegun be
   asked-follows : (asked : Asked) → FollowsBegun (listAsked begun asked) (leftBy words asked)
   unfolding leftBy listAsked
   asked-follows (freshRecord system) = fresh-follows system
+  asked-follows (observeWindows number system recording start windows) = observe-follows number system recording start windows
   asked-follows (addRow system values) = add-row-follows system values
   asked-follows (askVerdict q) = follows
 
   -- other than 122 words stay as they were
   left-alone : (part : List ℕ) (asked : Asked) → (length part ≡ recordWords → ⊥) → leftBy part asked ≡ part
-  unfolding leftBy freshCallExit freshCallRefusal addRowCallExit addRowCallRefusal
+  unfolding leftBy freshCallExit freshCallRefusal observeCallExit observeCallRefusal addRowCallExit addRowCallRefusal
   left-alone part (freshRecord system) other = rw (ne-eqb (length part) recordWords other)
+  left-alone part (observeWindows number system recording start windows) other = by-kind (isKind number)
+    where
+      by-kind :
+          (known : Bool) →
+          unlessRefused
+          (ownFirst ((not known, unknownKind) ∷ wordCountCheck recordWords part ∷ []) (observeRefusal system recording start windows))
+          (wordsOf (recordAfter (emptyRecord system) (windowRows (kindWith number) system recording start windows)))
+          part
+          ≡ part
+      by-kind true = rw (ne-eqb (length part) recordWords other)
+      by-kind false = refl
   left-alone part (addRow system values) other = rw (ne-eqb (length part) recordWords other)
   left-alone part (askVerdict q) other = refl
 

@@ -14,7 +14,7 @@ use Rattle.rows.specs.Orders.{orderCount}
 use Rattle.accuracy.specs.Distance.{InRange}
 use Rattle.accuracy.proofs.WorkedExample.{workedRow, refusedRow, exampleList, example-worked}
 use Rattle.verdict.specs.Question.{asked}
-use Rattle.kifsang.specs.Words.{recordWords}
+use Rattle.record_words.specs.Words.{recordWords}
 use Rattle.exported_accuracy.specs.Calls.{Asked, freshRecord, addRow, askVerdict, Call, wordsAfter, withCall, listAsked, listAtExit, listAfter}
 use Rattle.exported_accuracy.specs.Claim.{WordsHold}
 use Rattle.exported_accuracy.proofs.ExportedDemand3.{exported-demand3}

@@ -1,22 +1,29 @@
 -- The exported calls on a record's words, as a caller makes them one after the other, and the list of document 01 ("The list") that they go on with.
-use mathlib.Core.Bool.{cond}
+use mathlib.Core.Bool.{cond, _&&_}
 use mathlib.Core.List.{List, [], _∷_, _++_}
 use mathlib.Core.Option.{Option, none, some}
 use Prim.Native.Nat.{ℕ}
 use lib.Dec.{eqb, leb}
+use lib.IntN.{ℤ}
 use lib.ListN.{length, take, drop}
+use Rattle.refusals.specs.Numbers.{noRefusal}
 use Rattle.rows.specs.Systems.{isSystem}
 use Rattle.rows.specs.Orders.{orderCount}
 use Rattle.rows.specs.declared.Row.{Row}
 use Rattle.verdict.specs.declared.Question.{Question}
 use Rattle.accuracy.specs.CallList.{CallList}
-use Rattle.kifsang.specs.Words.{recordWords}
-use Rattle.kifsang.specs.RecordCalls.{lentRow, freshCallExit, addRowCallExit}
+use Rattle.accuracy.specs.Claim.{observedList}
+use Rattle.observe.specs.Observe.{observeRefusal}
+use Rattle.kifsang.specs.Kinds.{isKind, kindWith}
+use Rattle.record_words.specs.Words.{recordWords}
+use Rattle.kifsang.specs.RecordCalls.{lentRow, freshCallExit, observeCallExit, addRowCallExit}
 
 -- what is asked of a record's words
 pub data Asked : Type 0 where
   -- kifsang_fresh_record with a system
   freshRecord : ℕ → Asked
+  -- kifsang_observe with a kind's number, a system, a recording, the start of its first window and a count of windows
+  observeWindows : ℕ → ℕ → List ℤ → ℕ → ℕ → Asked
   -- kifsang_add_row with a system and values
   addRow : ℕ → List ℕ → Asked
   -- kifsang_verdict with what is asked
@@ -25,6 +32,7 @@ pub data Asked : Type 0 where
 -- what some words hold at exit, by the contract of each function; a verdict only reads them
 unfoldable pub leftBy : List ℕ → Asked → List ℕ
 leftBy words (freshRecord system) = freshCallExit system words
+leftBy words (observeWindows number system recording start windows) = observeCallExit number system recording start windows words
 leftBy words (addRow system values) = addRowCallExit words system values
 leftBy words (askVerdict q) = words
 
@@ -47,9 +55,13 @@ unfoldable pub withCall : Option CallList → Row → Option CallList
 withCall none row = none
 withCall (some list) row = some (record { system = list .system; rows = list .rows ++ (row ∷ []) })
 
--- "A fresh record begins another list": one that is not refused. Values that are not 40 are no row.
+-- "A fresh record begins another list": one that is not refused. An observation begins with one too, and goes on with the rows of its windows. Values that are not 40 are no row.
 unfoldable pub listAsked : Option CallList → Asked → Option CallList
 listAsked begun (freshRecord system) = cond (isSystem system) (some (record { system = system; rows = [] })) begun
+listAsked begun (observeWindows number system recording start windows) =
+    cond (isKind number && eqb (observeRefusal system recording start windows) noRefusal)
+    (some (observedList (kindWith number) system recording start windows))
+    begun
 listAsked begun (addRow system values) =
     cond (eqb (length values) orderCount) (withCall begun (lentRow system values)) begun
 listAsked begun (askVerdict q) = begun

@@ -16,11 +16,11 @@ use Rattle.observation.specs.Smoothing.{smoothedMargin}
 use Rattle.verdict.specs.Call.{orderNumber}
 use Rattle.accuracy.specs.Distance.{EveryOrder, ValueNear}
 use Rattle.accuracy.specs.CallList.{CallList, after, state}
-use Rattle.accuracy.specs.Claim.{Worked, WorkedList, LBook, UBook, Keeps, ListHolds}
+use Rattle.accuracy.specs.Claim.{Worked, WorkedList, LBook, UBook, Keeps, ListHolds, observedList}
 use Rattle.kifsang.specs.Kinds.{kindWith}
 use Rattle.kifsang.specs.GroupCalls.{groupCallRefusal, groupCallExit, rowCallRefusal, rowCallExit}
-use Rattle.kifsang.specs.Words.{smoothedPlace, recordWords, wordsOf}
-use Rattle.kifsang.specs.RecordCalls.{lentRow, verdictNumber, verdictCallRefusal, verdictCallExit}
+use Rattle.record_words.specs.Words.{smoothedPlace, recordWords, wordsOf}
+use Rattle.kifsang.specs.RecordCalls.{lentRow, observeCallRefusal, observeCallExit, verdictNumber, verdictCallRefusal, verdictCallExit}
 use Rattle.exported_accuracy.specs.Calls.{Call, wordsAfter, listAfter}
 
 -- the word of an order's smoothed value
@@ -67,7 +67,14 @@ module _ (recording : List ℤ) (start : ℕ) (buffer : List ℕ) (number system
       (lentRow system (rowCallExit number system (spectrumExit recording start buffer) before))
       (windowAt recording start)
 
--- Demand 3 for the exported calls: the distance of a group value; a row that is worked from samples; and for any calls on any 122 words, refused ones and ones that lend fewer words included, the claim about the list that they have come to, where its accepted rows are worked from samples of one kind.
+-- kifsang_observe, not refused: the words that it leaves hold what demand 3 claims of the list of the windows' rows, which are worked from samples
+abbrev pub CalledObserve : List ℤ → ℕ → ℕ → ℕ → ℕ → List ℕ → Type 0
+CalledObserve recording start number system windows before =
+    observeCallRefusal number system recording start windows before ≡ noRefusal →
+    WordsHold (kindWith number) (observedList (kindWith number) system recording start windows)
+    (observeCallExit number system recording start windows before)
+
+-- Demand 3 for the exported calls: the distance of a group value; a row that is worked from samples; and for any calls on any 122 words, refused ones and ones that lend fewer words included, the claim about the list that they have come to, where its accepted rows are worked from samples of one kind; and of an observation, whose rows are.
 pub record ExportedDemand3Holds : Type 0 where
   pub groups :
       (recording : List ℤ) (start : ℕ) (buffer : List ℕ) (number system order before : ℕ) →
@@ -82,3 +89,6 @@ pub record ExportedDemand3Holds : Type 0 where
       listAfter none calls ≡ some list →
       WorkedList kind list →
       WordsHold kind list (wordsAfter words calls)
+  pub observed :
+      (recording : List ℤ) (start number system windows : ℕ) (before : List ℕ) →
+      CalledObserve recording start number system windows before

@@ -1,5 +1,3 @@
--- The theorems of the square root and of the wide whole numbers.
+-- The theorems of the square root.
 pub mod Root
 mod Newton
-pub mod Wide
-mod Filled

@@ -1,3 +1,2 @@
--- The whole part of the square root, and whole numbers wider than 64 bits as lists of limbs.
+-- The whole part of the square root.
 pub mod Root
-pub mod Wide

@@ -1,4 +1,2 @@
-// Whole numbers: the integer square root, and numbers wider than 64 bits.
-pub mod limbs;
+// Whole numbers: the integer square root.
 pub mod square_root;
-pub mod wide_numbers;

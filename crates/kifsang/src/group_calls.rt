@@ -86,5 +86,8 @@ pub extern "C" fn kifsang_distortion(values: &[u32], parts_per_thousand: &mut u6
     if own != NO_REFUSAL {
         return own;
     }
-    hand_over(distortion::distortion(first_values(values)), parts_per_thousand)
+    hand_over(
+        distortion::distortion(first_values(values)),
+        parts_per_thousand,
+    )
 }

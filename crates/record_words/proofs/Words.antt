@@ -17,18 +17,18 @@ use Rattle.observation.specs.declared.Observation.{Observation}
 use Rattle.observation.specs.Soundness.{isSound, mostWindows}
 use Rattle.observation.proofs.SoundRecord.{sound-parts}
 use Rattle.record_words.specs.Parts.{wordsFrom, partsFrom, joined, total}
-use Rattle.record_words.specs.Words.{recordParts, recordWords, smoothedPlace, partsOf, recordWith, wordsOf, recordOf, recordRead, Whole, wordsWith}
+use Rattle.record_words.specs.Words.{recordParts, recordWords, smoothedPlace, partsOf, ofParts, wordsOf, recordOf, recordRead, Whole, wordsWith}
 use Rattle.record_words.proofs.Parts.{joined-length, partsFrom-joined, joined-partsFrom}
 
 -- 122 words are those of the record that they hold
 pub words-of-record : (words : List ℕ) → length words ≡ recordWords → wordsOf (recordOf words) ≡ words
-unfolding wordsOf recordOf recordWith partsOf partsFrom wordsFrom tabulate
+unfolding wordsOf recordOf ofParts partsOf partsFrom wordsFrom tabulate
 words-of-record words whole =
     joined-partsFrom 0 recordParts words (omega arith) ∙ take-all recordWords words (le-of-eq whole)
 
 -- a record is the one that its words hold
 pub record-of-words : (o : Observation) → Whole o → recordOf (wordsOf o) ≡ o
-unfolding wordsOf recordOf Whole recordWith partsOf
+unfolding wordsOf recordOf Whole ofParts partsOf
 record-of-words o whole = rw (← whole, partsFrom-joined [] (partsOf o))
 
 -- its words are its parts, each put after those before it
@@ -46,7 +46,7 @@ pub smoothed-word :
     Whole o →
     i < orderCount →
     getD (wordsOf o) (smoothedPlace + i) 0 ≡ getD (o .smoothed) i 0
-unfolding recordOf recordWith partsFrom wordsFrom
+unfolding recordOf ofParts partsFrom wordsFrom
 smoothed-word o i whole inside =
     sym (getD-tabulate orderCount (λ k. getD (wordsOf o) (smoothedPlace + k) 0) i 0 inside) ∙
     ap (λ (held : Observation). getD (held .smoothed) i 0) (record-of-words o whole)
@@ -71,19 +71,19 @@ read-same :
     min (systemWord words) largestValue ≡ systemWord words →
     min (windowsWord words) largestValue ≡ windowsWord words →
     recordRead words ≡ recordOf words
-unfolding recordRead recordOf recordWith partsFrom
+unfolding recordRead recordOf ofParts partsFrom
 read-same words system windows = rw (system, windows)
 
 -- so it is where one of the two is sound
 read-sound : (words : List ℕ) → isSound (recordRead words) ≡ true → recordRead words ≡ recordOf words
-unfolding recordRead recordWith partsFrom
+unfolding recordRead ofParts partsFrom
 read-sound words sound =
     let parts = sound-parts (recordRead words) sound in
     let bounds = system-bounds _ (parts .system-known) in
     read-same words (omega (arith, bounds .most)) (omega (arith, parts .windows-le))
 
 held-sound : (words : List ℕ) → isSound (recordOf words) ≡ true → recordRead words ≡ recordOf words
-unfolding recordOf recordWith partsFrom
+unfolding recordOf ofParts partsFrom
 held-sound words sound =
     let parts = sound-parts (recordOf words) sound in
     let bounds = system-bounds _ (parts .system-known) in

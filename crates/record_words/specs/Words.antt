@@ -27,8 +27,8 @@ unfoldable pub partsOf : Observation → List (List ℕ)
 partsOf o = (o .system ∷ []) ∷ (o .windows ∷ []) ∷ o .smoothed ∷ o .sum ∷ o .peak ∷ []
 
 -- the record of some parts, its system and its count of windows as a number of words has them
-unfoldable pub recordWith : (ℕ → ℕ) → List (List ℕ) → Observation
-recordWith counted parts =
+unfoldable pub ofParts : (ℕ → ℕ) → List (List ℕ) → Observation
+ofParts counted parts =
     record {
       system = counted (getD (getD parts 0 []) 0 0);
       windows = counted (getD (getD parts 1 []) 0 0);
@@ -43,11 +43,11 @@ wordsOf o = joined (partsOf o)
 
 -- the record that some words hold
 unfoldable pub recordOf : List ℕ → Observation
-recordOf words = recordWith (λ word. word) (partsFrom 0 recordParts words)
+recordOf words = ofParts (λ word. word) (partsFrom 0 recordParts words)
 
 -- the same in the library's numbers: its system and its count of windows have 32 bits, and a word that has more counts as the largest of them, which is neither a system nor a count of a sound record
 unfoldable pub recordRead : List ℕ → Observation
-recordRead words = recordWith (λ word. min word largestValue) (partsFrom 0 recordParts words)
+recordRead words = ofParts (λ word. min word largestValue) (partsFrom 0 recordParts words)
 
 -- each part of a record has its count of words
 unfoldable pub Whole : Observation → Type 0

@@ -12,11 +12,10 @@ pub fn hand_over(answer: Answer, value: &mut u64) -> u32
     ensures { λ r. ⌜ r ≡ answer .refusal ⌝ }
     ensures { λ _. ⌜ now (value .exit) ≡ unlessRefused (answer .refusal) (answer .value) (now (value .entry)) ⌝ }
 {
-    let refusal = answer.refusal;
-    if refusal == NO_REFUSAL {
+    if answer.refusal == NO_REFUSAL {
         *value = answer.value;
     }
-    refusal
+    answer.refusal
 }
 
 // Writes the values of a row, 0 past the last.

@@ -20,6 +20,10 @@ use Rattle.observation.specs.Soundness.{noneAbove, allZero, isSound}
 use Rattle.observation.specs.Book.{smoothedNext, bookStep}
 use Rattle.observation.specs.Smoothing.{smoothedValue}
 use Rattle.observation.specs.Calls.{emptyRecord, freshRefusal, bookAt, nextBook, withRow, rowChecks, addRowRefusal}
+use Rattle.observation.specs.RecordAfter.{recordAfter}
+use Rattle.spectrum.specs.Line.{windowAt}
+use Rattle.spectrum.specs.Spectrum.{outOfRange}
+use Rattle.observe.specs.Observe.{windowRows, observeChecks, observeRefusal}
 use Rattle.verdict.specs.Question.{asked}
 use Rattle.verdict.specs.Limit.{ownFigures, figureIn, limitOf, overOrder, limitInUnits, peakLimitInUnits}
 use Rattle.verdict.specs.Tests.{raised, atMost, isWithin, isOver}
@@ -31,10 +35,11 @@ use Rattle.columns.specs.Calls.{columnReadAnswer}
 use Rattle.listing.specs.Listing.{header, orderLine, orderText, ordersText, listingText, listingRefusal, listingExit}
 use Rattle.kifsang.specs.Kinds.{kinds, isKind, kindWith}
 use Rattle.kifsang.specs.GroupCalls.{groupCallRefusal, groupCallExit, rowCallRefusal, rowCallExit, distortionCallRefusal, distortionCallExit}
-use Rattle.kifsang.specs.Words.{recordOf, wordsOf}
+use Rattle.record_words.specs.Parts.{wordsFrom, partsFrom, joined}
+use Rattle.record_words.specs.Words.{partsOf, ofParts, wordsOf, recordOf}
 use Rattle.kifsang.specs.ColumnCalls.{columnCallExit}
 use Rattle.kifsang.specs.ListingCall.{listingCallRefusal, listingCallExit, listingCallCountExit}
-use Rattle.kifsang.specs.RecordCalls.{freshCallRefusal, freshCallExit, addRowCallRefusal, addRowCallExit, verdictNumber, verdictCallRefusal, verdictCallExit}
+use Rattle.kifsang.specs.RecordCalls.{freshCallRefusal, freshCallExit, observeCallRefusal, observeCallExit, addRowCallRefusal, addRowCallExit, verdictNumber, verdictCallRefusal, verdictCallExit}
 
 -- each row is what a call answers and leaves, and the same in figures
 Alike : {A : Type 0} → List ((ℕ × A) × (ℕ × A)) → Type 0
@@ -113,7 +118,7 @@ verdicts-worked :
     (verdictFor (recordWith 1 0) 40 (2 ^ 28 + 1), (11, 77)) ∷
     (verdictFor (recordWith 1 0) 40 (2 ^ 28), (0, 1)) ∷
     [])
-unfolding Alike verdictFor recordWith verdictCallRefusal verdictCallExit verdictNumber recordOf verdictRefusal verdictOf averageOf peakOf combined raised atMost isOver isWithin limitInUnits peakLimitInUnits limitOf figureIn ownFigures overOrder whole scale divide isSound isSystem noneAbove allZero anyOf
+unfolding Alike verdictFor recordWith verdictCallRefusal verdictCallExit verdictNumber recordOf ofParts partsFrom wordsFrom tabulate verdictRefusal verdictOf averageOf peakOf combined raised atMost isOver isWithin limitInUnits peakLimitInUnits limitOf figureIn ownFigures overOrder whole scale divide isSound isSystem noneAbove allZero anyOf
 verdicts-worked = refl
 
 -- ---- kifsang_row
@@ -149,8 +154,29 @@ fresh-records-worked :
     (freshFor 11 (replicate 123 7), (102, replicate 123 7)) ∷
     (freshFor 11 (replicate 122 7), (1, replicate 122 7)) ∷
     [])
-unfolding Alike freshFor freshCallRefusal freshCallExit freshRefusal isSystem wordsOf emptyRecord
+unfolding Alike freshFor freshCallRefusal freshCallExit freshRefusal isSystem wordsOf partsOf joined emptyRecord
 fresh-records-worked = refl
+
+-- ---- kifsang_observe
+
+observeFor : ℕ → ℕ → List ℤ → ℕ → ℕ → List ℕ → ℕ × List ℕ
+observeFor kind system recording start windows words =
+    (observeCallRefusal kind system recording start windows words, observeCallExit kind system recording start windows words)
+
+observations-worked :
+    Alike
+    -- no window: a fresh record
+    ((observeFor 1 12 [] 9 0 (replicate 122 7), (0, 12 ∷ replicate 121 0)) ∷
+    -- 101 before 102 before 1 before 2 before 3
+    (observeFor 5 11 [] 0 1 (replicate 121 7), (101, replicate 121 7)) ∷
+    (observeFor 4 11 [] 0 1 (replicate 121 7), (102, replicate 121 7)) ∷
+    (observeFor 4 11 [] 0 1 (replicate 123 7), (102, replicate 123 7)) ∷
+    (observeFor 4 11 [] 0 1 (replicate 122 7), (1, replicate 122 7)) ∷
+    (observeFor 4 10 (replicate 2048 (pos 131072)) 1 1 (replicate 122 7), (2, replicate 122 7)) ∷
+    (observeFor 4 10 (replicate 2048 (pos 131072)) 0 2 (replicate 122 7), (3, replicate 122 7)) ∷
+    [])
+unfolding Alike observeFor observeCallRefusal observeCallExit isKind kindWith kinds observeRefusal observeChecks windowRows tabulate isSystem windowAt outOfRange anyOf recordAfter emptyRecord wordsOf partsOf joined
+observations-worked = refl
 
 -- ---- kifsang_add_row
 
@@ -177,7 +203,7 @@ add-rows-worked :
     (addFor (recordWith 45000 7) 12 (replicate 40 1), (8, recordWith 45000 7)) ∷
     (addFor (recordWith 45000 7) 10 (replicate 40 1), (9, recordWith 45000 7)) ∷
     [])
-unfolding Alike addFor recordWith addRowCallRefusal addRowCallExit recordOf wordsOf addRowRefusal rowChecks withRow nextBook bookAt bookStep smoothedNext smoothedValue nearest tabulate isSound isSystem noneAbove allZero anyOf
+unfolding Alike addFor recordWith addRowCallRefusal addRowCallExit recordOf ofParts partsFrom wordsFrom wordsOf partsOf joined addRowRefusal rowChecks withRow nextBook bookAt bookStep smoothedNext smoothedValue nearest tabulate isSound isSystem noneAbove allZero anyOf
 add-rows-worked = refl
 
 -- ---- kifsang_read_column

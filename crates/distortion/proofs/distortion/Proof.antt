@@ -8,7 +8,8 @@ use lib.ListN.{length, getD, drop, length-drop}
 use lib.Seq.{take-all}
 use mir.Syntax.{w32}
 use mir.Val.{Fits}
-use Rattle.integers.specs.Wide.{wideLimbs, limbsOf}
+use Rattle.limbs.specs.Wide.{limbsOf}
+use Rattle.wide_numbers.specs.WideNumbers.{wideLimbs}
 use Rattle.rows.specs.Orders.{orderCount}
 use Rattle.distortion.specs.Distortion.{sumOfSquares, distortionOf, distortionAnswer}
 use Rattle.distortion.proofs.RowDistortion.{distortion-quotient}

@@ -1,13 +1,13 @@
 -- `record_words::reading::read_record` meets its contract.
 use borrow.Author.Needs.{needs}
 use Rattle.record_words.specs.Parts.{partsFrom}
-use Rattle.record_words.specs.Words.{recordRead, recordWith}
+use Rattle.record_words.specs.Words.{recordRead, ofParts}
 use Rattle.record_words.proofs.Parts.{wordsFrom-one}
 use Rattle.record_words.proofs.reading.read_record.Statement.{statement}
 use Rattle.record_words.proofs.reading.read_record.Tie as tie
 
 returns : tie.Need-returns
-unfolding recordRead recordWith partsFrom
+unfolding recordRead ofParts partsFrom
 returns c =
     let words = c .before .before .before .before .before .before .args .words .now in
     cc (wordsFrom-one 0 words, wordsFrom-one 1 words)

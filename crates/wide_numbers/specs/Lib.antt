@@ -1,0 +1,2 @@
+-- The width of a wide number.
+pub mod WideNumbers
