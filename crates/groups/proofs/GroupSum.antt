@@ -7,6 +7,7 @@ use native.Mathlib.Nat.{mul-le-mul-right}
 use native.Mathlib.Decide.{ℕ-discrete, decLt}
 use native.Mathlib.Omega.{arith}
 use lib.Dec.{ltb, lit<}
+use lib.IntN.{ℤ}
 use lib.ListN.{length, getD, replicate, List·getD-eq-default}
 use borrow.Author.Tests.{ltb-false, eqb-true, ne-eqb, not-false}
 use Rattle.algebra.specs.Lists.{tabulate, anyOf}
@@ -16,12 +17,12 @@ use Rattle.refusals.specs.Numbers.{noRefusal, unknownSystem, orderOutOfRange, w
 use Rattle.refusals.proofs.Answers.{no-faults, unlessRefused-accepted, unlessRefused-refused}
 use Rattle.rows.specs.Systems.{isSystem}
 use Rattle.rows.specs.Orders.{orderCount, isOrder}
-use Rattle.rows.specs.Rows.{largestValue, refusedRow}
+use Rattle.rows.specs.Rows.{largestValue, refusedRow, ValuesFit}
 use Rattle.rows.proofs.Orders.{order-of-place}
-use Rattle.spectrum.specs.Line.{lineCount, largestLine}
+use Rattle.spectrum.specs.Line.{lineCount, largestLine, linesOf}
 use Rattle.groups.specs.declared.Kind.{Kind}
 use Rattle.groups.specs.Spans.{Weighted, weightsOf, weightedSum}
-use Rattle.groups.specs.Group.{lineAt, groupChecks, groupRefusal, groupValue, groupAnswer, groupValues, groupRowRefusal, groupRowAnswer}
+use Rattle.groups.specs.Group.{lineAt, groupChecks, groupRefusal, groupValue, groupAnswer, groupValues, groupRowRefusal, groupRowAnswer, windowRow}
 use Rattle.groups.proofs.Weights.{totalTwiceWeight, largestTotal, weightedSum-le-total, weightsOf-total-le}
 
 -- ---- a group that is not refused
@@ -131,3 +132,14 @@ module _ (kind : Kind) (system : ℕ) (lines : List ℕ) where
 largest-lines-accepted : groupRefusal 12 orderCount (tabulate lineCount (λ k. largestLine)) ≡ noRefusal
 unfolding groupRefusal isSystem isOrder anyOf tabulate
 largest-lines-accepted = refl
+
+-- ---- the row of a window
+
+-- the values of a window's row have 32 bits
+pub windowRow-fits : (kind : Kind) (system : ℕ) (window : List ℤ) → ValuesFit (windowRow kind system window)
+unfolding ValuesFit windowRow
+windowRow-fits kind system window = groupValues-le kind system (linesOf window)
+
+pub windowRow-system : (kind : Kind) (system : ℕ) (window : List ℤ) → windowRow kind system window .system ≡ system
+unfolding windowRow
+windowRow-system kind system window = refl

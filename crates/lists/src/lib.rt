@@ -15,13 +15,13 @@ pub fn number_at(numbers: &[u32], place: usize) -> u32
     }
 }
 
-// Whether some number of the list is above the limit.
-pub fn any_above(numbers: &[u64], limit: u64) -> bool
-    ensures { λ r. ⌜ r ≡ anyOf (ltb limit) (now (numbers .entry)) ⌝ }
+// Whether some number of the list is above the bound.
+pub fn any_above(numbers: &[u64], bound: u64) -> bool
+    ensures { λ r. ⌜ r ≡ anyOf (ltb bound) (now (numbers .entry)) ⌝ }
 {
     let mut i = 0;
     while i < numbers.len() {
-        if limit < numbers[i] {
+        if bound < numbers[i] {
             return true;
         }
         i += 1;

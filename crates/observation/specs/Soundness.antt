@@ -12,9 +12,9 @@ use Rattle.observation.specs.declared.Observation.{Observation}
 abbrev pub mostWindows : ℕ
 mostWindows = 45000
 
--- no value is above the limit
+-- no value is above the bound
 unfoldable pub noneAbove : ℕ → List ℕ → Bool
-noneAbove limit values = not (anyOf (ltb limit) values)
+noneAbove bound values = not (anyOf (ltb bound) values)
 
 -- all of the record's 120 numbers are 0
 abbrev pub zeroTests : Observation → List Bool

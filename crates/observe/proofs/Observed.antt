@@ -30,9 +30,10 @@ use Rattle.observation.proofs.SoundRecord.{sound-parts, empty-record-sound, fre
 use Rattle.observation.proofs.RecordAfter.{record-after-tabulate}
 use Rattle.observation.proofs.RecordBooks.{answer-system}
 use Rattle.groups.specs.Group.{groupRowRefusal, windowRow}
+use Rattle.groups.proofs.GroupSum.{windowRow-fits, windowRow-system}
 use Rattle.observe.specs.Observe.{windowStart, windowRows, addWindowChecks, observeChecks, observeRefusal, observeAnswer}
 use Rattle.observe.specs.Calls.{lentLines, windowCalls, callsAfter}
-use Rattle.observe.proofs.WindowCalls.{spectrumRefusal-lent, groupRowRefusal-window, windowRow-fits, windowRow-system, windowCalls-answered}
+use Rattle.observe.proofs.WindowCalls.{spectrumRefusal-lent, groupRowRefusal-window, windowCalls-answered}
 
 module _ (system : ℕ) (recording : List ℤ) (start : ℕ) where
   observeChecks-numbered : (n : ℕ) → numbered (observeChecks system recording start n) ≡ true

@@ -10,13 +10,13 @@ use lib.ListN.{length}
 use Rattle.refusals.specs.Numbers.{noRefusal, shortWindow, sampleOutOfRange}
 use Rattle.refusals.specs.Answers.{firstFault}
 use Rattle.rows.specs.Systems.{isSystem}
-use Rattle.rows.specs.Rows.{refusedRow, ValuesFit}
+use Rattle.rows.specs.Rows.{refusedRow}
 use Rattle.rows.specs.declared.Row.{Row}
 use Rattle.spectrum.specs.Line.{lineCount, windowAt, linesOf}
 use Rattle.spectrum.specs.Spectrum.{shortCheck, rangeCheck, spectrumRefusal, spectrumExit}
 use Rattle.spectrum.proofs.Lines.{length-linesOf, no-line-too-large}
 use Rattle.groups.specs.declared.Kind.{Kind}
-use Rattle.groups.proofs.GroupSum.{groupValues-le}
+use Rattle.groups.proofs.GroupSum.{windowRow-system}
 use Rattle.observation.specs.declared.Observation.{Observation}
 use Rattle.observation.specs.declared.RecordAnswer.{RecordAnswer}
 use Rattle.observation.specs.Soundness.{isSound}
@@ -45,15 +45,6 @@ groupRowRefusal-window system recording at known in-range =
       eq-eqb (length (linesOf window)) lineCount (length-linesOf window),
       no-line-too-large window in-range,
     )
-
--- the values of a window's row have 32 bits
-pub windowRow-fits : (kind : Kind) (system : ℕ) (window : List ℤ) → ValuesFit (windowRow kind system window)
-unfolding ValuesFit windowRow
-windowRow-fits kind system window = groupValues-le kind system (linesOf window)
-
-pub windowRow-system : (kind : Kind) (system : ℕ) (window : List ℤ) → windowRow kind system window .system ≡ system
-unfolding windowRow
-windowRow-system kind system window = refl
 
 module _ (kind : Kind) (system : ℕ) (recording : List ℤ) (at : ℕ) where
   rowCalls-short : shortCheck recording at .0 ≡ true → rowCalls kind system recording at ≡ record { refusal = shortWindow; row = refusedRow }

@@ -12,16 +12,11 @@ use Rattle.rows.specs.declared.Row.{Row}
 use Rattle.observation.specs.declared.Observation.{Observation}
 use Rattle.observation.specs.Soundness.{mostWindows}
 use Rattle.observation.specs.Calls.{addRowRefusal, addRowAnswer, withRow}
-use Rattle.observation.proofs.SoundRecord.{accepted-call}
+use Rattle.observation.proofs.SoundRecord.{accepted-call, addRowAnswer-accepted}
 use Rattle.recordings.specs.declared.Reading.{Reading}
 use Rattle.groups.specs.Group.{windowRow}
 use Rattle.recordings.specs.Blocks.{windowBytes, textLinesRefusal, blockLines, samplesOf, windowTaken, blockOf}
 use Rattle.recordings.proofs.BlockLaws.{blockOf-refused, blockOf-text-line, blockOf-short, blockOf-whole}
-
-pub addRowAnswer-accepted : (o : Observation) (row : Row) → addRowRefusal o row ≡ noRefusal
-    → addRowAnswer o row .observation ≡ withRow o row
-unfolding addRowAnswer
-addRowAnswer-accepted o row e = rw e
 
 pub withRow-windows : (o : Observation) (row : Row) → withRow o row .windows ≡ o .windows + 1
 unfolding withRow

@@ -13,13 +13,13 @@ use Rattle.refusals.specs.Numbers.{noRefusal, recordFull}
 use Rattle.spectrum.specs.Line.{windowLength, linesOf}
 use Rattle.groups.specs.declared.Kind.{Kind}
 use Rattle.groups.specs.declared.Kind.the-variants.{HarmonicGroup, HarmonicSubgroup}
-use Rattle.groups.proofs.GroupSum.{groupValues-le}
+use Rattle.groups.proofs.GroupSum.{windowRow-fits, windowRow-system}
 use Rattle.rows.specs.declared.Row.{Row}
 use Rattle.observation.specs.declared.Observation.{Observation}
 use Rattle.observation.specs.Soundness.{isSound, mostWindows}
 use Rattle.observation.specs.Calls.{rowChecks, addRowRefusal, addRowAnswer, withRow}
 use Rattle.rows.specs.Rows.{ValuesFit}
-use Rattle.observation.proofs.SoundRecord.{sound-parts, with-row-sound}
+use Rattle.observation.proofs.SoundRecord.{sound-parts, with-row-sound, addRowRefusal-own, addRowAnswer-accepted}
 use Rattle.observation.proofs.RecordAfter.{record-after-tabulate}
 use Rattle.recordings.specs.declared.Reading.{Reading}
 use Rattle.recordings.specs.TextLines.{textLineBytes}
@@ -28,26 +28,10 @@ use Rattle.recordings.specs.Output.{systemIn, windowIn, rowsIn, recordIn
 use Rattle.groups.specs.Group.{windowRow}
 use Rattle.recordings.specs.Blocks.{windowBytes, textLinesRefusal, blockLines, samplesOf, refusedWith, windowTaken, blockOf}
 use Rattle.recordings.proofs.BlockLaws.{blockLines-whole, blockOf-refused, blockOf-text-line, blockOf-whole}
-use Rattle.recordings.proofs.WindowAdded.{addRowAnswer-accepted, withRow-windows}
+use Rattle.recordings.proofs.WindowAdded.{withRow-windows}
 use Rattle.recordings.proofs.TextLines.{linesTo, fullAt, systemIn-front, recordIn-front, windowIn-after}
 use Rattle.recordings.proofs.WindowRefusals.{refusalBefore-stays, refusalBefore-window}
 use Rattle.recordings.proofs.Holds.{GoesOn, Holds}
-
--- the values of a window's row are numbers of 32 bits
-windowRow-fits : (kind : Kind) (system : ℕ) (window : List ℤ) → ValuesFit (windowRow kind system window)
-unfolding ValuesFit windowRow
-windowRow-fits kind system window i = groupValues-le kind system (linesOf window) i
-
-windowRow-system : (kind : Kind) (system : ℕ) (window : List ℤ) → windowRow kind system window .system ≡ system
-unfolding windowRow
-windowRow-system kind system window = refl
-
--- a sound record refuses a row of its own system only where it is full
-addRowRefusal-own-row : (o : Observation) (row : Row) → isSound o ≡ true → row .system ≡ o .system
-    → addRowRefusal o row ≡ cond (leb mostWindows (o .windows)) recordFull noRefusal
-unfolding addRowRefusal rowChecks
-addRowRefusal-own-row o row sound own =
-    rw (sound, own, sound-parts o sound .system-known, eq-eqb (o .system) (o .system) refl)
 
 -- full where the text's next window is the one after the most
 full-is : (w : ℕ) → w ≤ mostWindows → cond (leb mostWindows w) recordFull noRefusal ≡ fullAt (linesTo w + (windowLength - 1))
@@ -137,7 +121,7 @@ module _ (p block : List ℕ) (w : ℕ) (reading : Reading) (h : Holds p w readi
       window-refusal : addRowRefusal (reading .observation) (groupRow reading block) ≡ cond (leb mostWindows w) recordFull noRefusal
       unfolding groupRow
       window-refusal =
-          addRowRefusal-own-row (reading .observation) (groupRow reading block) (goes .sound) (windowRow-system HarmonicGroup _ _)
+          addRowRefusal-own (reading .observation) (groupRow reading block) (goes .sound) (windowRow-system HarmonicGroup _ _)
           ∙ rw (goes .windows-are)
 
       system-next : systemIn (p ++ block) ≡ reading .observation .system

@@ -18,12 +18,6 @@ returns c = root-unique (c .before .args .n) _ (lt-rootLimit _ (c .before .fits 
 sub-r : tie.Need-sub-r Inv-loop μ-loop
 sub-r c = omega (arith, leading-le 64 (c .before .args .n))
 
-cast-r : tie.Need-cast-r Inv-loop μ-loop
-cast-r c = omega arith
-
-shl-r : tie.Need-shl-r Inv-loop μ-loop
-shl-r c = omega arith
-
 loop-holds : tie.Need-loop-holds Inv-loop μ-loop
 loop-holds c = first-candidate (c .before .args .n) _ (c .before .fits .n .fits) (omega (arith, leading-le 64 (c .before .args .n))) (omega arith)
 
@@ -32,12 +26,6 @@ div-loop c = c .loop .inv .above-zero
 
 div-r : tie.Need-div-r Inv-loop μ-loop
 div-r c = c .before .loop .inv .above-zero
-
-add-r : tie.Need-add-r Inv-loop μ-loop
-add-r c = omega arith
-
-loop-less : tie.Need-loop-less Inv-loop μ-loop
-loop-less c = omega arith
 
 loop-again : tie.Need-loop-again Inv-loop μ-loop
 loop-again c = step-candidate (c .before .before .before .args .n) (c .before .loop .r) _ (omega arith) (c .before .loop .inv) (omega arith) (omega arith) (omega arith)
@@ -60,13 +48,13 @@ root-spec =
     μ-loop
     returns
     sub-r
-    cast-r
-    shl-r
+    (λ c. omega arith)
+    (λ c. omega arith)
     loop-holds
     div-loop
     div-r
-    add-r
-    loop-less
+    (λ c. omega arith)
+    (λ c. omega arith)
     loop-again
     cast-result
     returns-2)

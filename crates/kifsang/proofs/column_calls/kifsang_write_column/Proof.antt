@@ -5,14 +5,8 @@ use borrow.Author.Needs.{needs}
 use Rattle.kifsang.proofs.column_calls.kifsang_write_column.Statement.{statement}
 use Rattle.kifsang.proofs.column_calls.kifsang_write_column.Tie as tie
 
-write-column-requires : tie.Need-write-column-requires
-write-column-requires c κs = search needs
-
-same-length : tie.Need-same-length
-same-length c = search needs
-
 returns : tie.Need-returns
 returns c = rw (toZ-ofZ {w = w64} (c .before .before .before .before .before .fits .number)) at (c .before .before .write-column .ensures)
 
 pub kifsang-write-column-spec : {M : Type 1} → statement M
-kifsang-write-column-spec = tie.close (tie.spec write-column-requires same-length returns)
+kifsang-write-column-spec = tie.close (tie.spec (λ c κs. search needs) (λ c. search needs) returns)

@@ -4,9 +4,6 @@ use Rattle.record_words.proofs.Parts.{take-part}
 use Rattle.record_words.proofs.writing.put_part.Statement.{statement}
 use Rattle.record_words.proofs.writing.put_part.Tie as tie
 
-copy-words-requires : tie.Need-copy-words-requires
-copy-words-requires c κs = search needs
-
 returns : tie.Need-returns
 returns c =
     let start = c .before .before .before .before .before .before in
@@ -22,6 +19,6 @@ put-part-spec =
     (λ c. search needs)
     (λ c. search needs)
     (λ c. search needs)
-    copy-words-requires
+    (λ c κs. search needs)
     (λ c. search needs)
     returns)

@@ -23,9 +23,6 @@ unfolding outOfRange
 not-below-the-range (pos n) e = refl
 not-below-the-range (negsuc n) e = sym (le-ltb largestSample (suc n) (omega (arith, ltb-false 131070 n e)))
 
-sub-if1 : tie.Need-sub-if1
-sub-if1 c = search needs
-
 returns : tie.Need-returns
 returns c =
     let e = toZ-ofZ w64 (c .before .args .sample) (c .before .fits .sample) in
@@ -37,4 +34,4 @@ returns-2 c =
     rw e (not-below-the-range (c .before .args .sample) (rw e at (c .if1 .left)))
 
 pub out-of-range-spec : {M : Type 1} → statement M
-out-of-range-spec = tie.close (tie.spec sub-if1 returns returns-2)
+out-of-range-spec = tie.close (tie.spec (λ c. search needs) returns returns-2)
