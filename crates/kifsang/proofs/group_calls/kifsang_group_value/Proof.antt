@@ -13,7 +13,7 @@ use Rattle.kifsang.proofs.group_calls.kifsang_group_value.Tie as tie
 
 -- what the own check answers
 own : (c : tie.After-fault-or) → c .fault-or .result ≡ firstFault (kindCheck (c .before .before .before .args .kind) ∷ [])
-own c = rw (← c .before .is-kind .ensures) (c .fault-or .ensures)
+own c = cc
 
 returns : tie.Need-returns
 unfolding groupCallRefusal groupCallExit

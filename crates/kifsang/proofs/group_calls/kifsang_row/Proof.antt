@@ -33,7 +33,7 @@ own :
     (kindCheck (c .before .before .before .before .before .args .kind)
     ∷ wordCountCheck orderCount (c .before .before .before .before .before .args .values .now)
     ∷ [])
-own c = rw (← c .before .before .is-kind .ensures, ← c .before .fault-or .ensures) (c .fault-or2 .ensures)
+own c = cc
 
 returns : tie.Need-returns
 unfolding rowCallRefusal rowCallExit

@@ -24,7 +24,7 @@ own :
     ∷ wordCountCheck orderCount (c .before .before .before .before .before .before .before .args .subgroup .now)
     ∷ wordCountCheck orderCount (c .before .before .before .before .before .before .before .args .smoothed .now)
     ∷ [])
-own c = rw (← c .before .before .fault-or .ensures, ← c .before .fault-or2 .ensures) (c .fault-or3 .ensures)
+own c = cc
 
 returns : tie.Need-returns
 unfolding listingCallRefusal listingCallExit listingCallCountExit

@@ -24,7 +24,7 @@ own :
     (wordCountCheck recordWords (c .before .before .before .before .args .words .now)
     ∷ wordCountCheck orderCount (c .before .before .before .before .args .values .now)
     ∷ [])
-own c = rw (← c .before .fault-or .ensures) (c .fault-or2 .ensures)
+own c = cc
 
 returns : tie.Need-returns
 unfolding addRowCallRefusal addRowCallExit

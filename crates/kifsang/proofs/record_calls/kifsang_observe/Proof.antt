@@ -27,7 +27,7 @@ own :
     (c : tie.After-fault-or2) →
     c .fault-or2 .result ≡
     firstFault (kindCheck (start-of c .args .kind) ∷ wordCountCheck recordWords (start-of c .args .words .now) ∷ [])
-own c = rw (← c .before .before .is-kind .ensures, ← c .before .fault-or .ensures) (c .fault-or2 .ensures)
+own c = cc
 
 returns : tie.Need-returns
 unfolding observeCallRefusal observeCallExit
