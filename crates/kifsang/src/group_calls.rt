@@ -8,14 +8,17 @@ use refusals::NO_REFUSAL;
 use refusals::fault_or;
 use rows::ORDER_COUNT;
 use rows::first_values;
+ghost use mathlib.Core.List.{[], _∷_};
 ghost use mathlib.Core.Path.{_≡_};
-ghost use Rattle.kifsang.specs.Kinds.{isKind, kindWith};
+ghost use Rattle.refusals.specs.Answers.{firstFault};
+ghost use Rattle.kifsang.specs.Refusals.{wrongWordCount};
+ghost use Rattle.kifsang.specs.Kinds.{isKind, kindWith, kindCheck};
 ghost use Rattle.kifsang.specs.GroupCalls.{groupCallRefusal, groupCallExit, rowCallRefusal, rowCallExit, distortionCallRefusal, distortionCallExit};
 
 // The kinds have the numbers 0..KIND_COUNT - 1.
 const KIND_COUNT: u32 = 5;
 
-pub(crate) fn is_kind(number: u32) -> bool
+fn is_kind(number: u32) -> bool
     ensures { λ r. ⌜ r ≡ isKind number ⌝ }
 {
     number < KIND_COUNT
@@ -32,6 +35,17 @@ pub(crate) fn kind_with(number: u32) -> Kind
         3 => Kind::InterharmonicGroup,
         _ => Kind::InterharmonicCentredSubgroup,
     }
+}
+
+// The own checks of a call with a kind and words: 101 no kind has the number, 102 the words are not so many.
+pub(crate) fn own_refusal(kind: u32, wrong_count: bool) -> u32
+    ensures { λ r. ⌜ r ≡ firstFault (kindCheck kind ∷ («wrong_count», wrongWordCount) ∷ []) ⌝ }
+{
+    fault_or(
+        !is_kind(kind),
+        UNKNOWN_KIND,
+        fault_or(wrong_count, WRONG_WORD_COUNT, NO_REFUSAL),
+    )
 }
 
 // Writes the group value of a kind, a system and an order.
@@ -62,12 +76,7 @@ pub extern "C" fn kifsang_row(kind: u32, system: u32, lines: &[u64], values: &mu
     ensures { λ r. ⌜ r ≡ rowCallRefusal kind system (now (lines .entry)) (now (values .entry)) ⌝ }
     ensures { λ _. ⌜ now (values .exit) ≡ rowCallExit kind system (now (lines .entry)) (now (values .entry)) ⌝ }
 {
-    let wrong_count = values.len() != ORDER_COUNT;
-    let own = fault_or(
-        !is_kind(kind),
-        UNKNOWN_KIND,
-        fault_or(wrong_count, WRONG_WORD_COUNT, NO_REFUSAL),
-    );
+    let own = own_refusal(kind, values.len() != ORDER_COUNT);
     if own != NO_REFUSAL {
         return own;
     }

@@ -1,8 +1,7 @@
 // The observation record and its verdicts, for callers in other languages.
-use crate::UNKNOWN_KIND;
 use crate::WRONG_WORD_COUNT;
-use crate::group_calls::is_kind;
 use crate::group_calls::kind_with;
+use crate::group_calls::own_refusal;
 use record_words::RECORD_WORDS;
 use record_words::hand_over_record;
 use record_words::read_record;
@@ -46,12 +45,7 @@ pub extern "C" fn kifsang_observe(
     ensures { λ r. ⌜ r ≡ observeCallRefusal kind system (now (recording .entry)) start windows (now (words .entry)) ⌝ }
     ensures { λ _. ⌜ now (words .exit) ≡ observeCallExit kind system (now (recording .entry)) start windows (now (words .entry)) ⌝ }
 {
-    let wrong_count = words.len() != RECORD_WORDS;
-    let own = fault_or(
-        !is_kind(kind),
-        UNKNOWN_KIND,
-        fault_or(wrong_count, WRONG_WORD_COUNT, NO_REFUSAL),
-    );
+    let own = own_refusal(kind, words.len() != RECORD_WORDS);
     if own != NO_REFUSAL {
         return own;
     }

@@ -1,37 +1,24 @@
 -- `kifsang::record_calls::kifsang_observe` meets its contract: the own checks, or the library's record as it is received.
 use mathlib.Core.Path.{_≡_, sym, _∙_}
-use mathlib.Core.List.{[], _∷_}
 use native.Mathlib.Omega.{arith}
 use borrow.Author.Needs.{needs}
 use Rattle.refusals.specs.Numbers.{noRefusal}
-use Rattle.refusals.specs.Answers.{firstFault}
 use Rattle.refusals.proofs.Answers.{no-fault}
 use Rattle.observation.specs.declared.Observation.{Observation}
 use Rattle.observation.specs.Calls.{emptyRecord, refusedRecord}
 use Rattle.observation.specs.RecordAfter.{recordAfter}
 use Rattle.observe.specs.Observe.{windowRows, observeRefusal, observeAnswer}
 use Rattle.record_words.specs.Words.{recordWords}
-use Rattle.kifsang.specs.Refusals.{unknownKind, wordCountCheck}
+use Rattle.kifsang.specs.Refusals.{unknownKind}
 use Rattle.kifsang.specs.Kinds.{kindWith, kindCheck}
 use Rattle.kifsang.specs.RecordCalls.{observeCallRefusal, observeCallExit}
 use Rattle.kifsang.proofs.Handed.{own-refused, count-passed, handed-record}
 use Rattle.kifsang.proofs.record_calls.kifsang_observe.Statement.{statement}
 use Rattle.kifsang.proofs.record_calls.kifsang_observe.Tie as tie
 
--- the call's start, from where its own checks are done
-abbrev start-of : tie.After-fault-or2 → tie.Start
-start-of c = c .before .before .before .before
-
--- what the own checks answer
-own :
-    (c : tie.After-fault-or2) →
-    c .fault-or2 .result ≡
-    firstFault (kindCheck (start-of c .args .kind) ∷ wordCountCheck recordWords (start-of c .args .words .now) ∷ [])
-own c = cc
-
 returns : tie.Need-returns
 unfolding observeCallRefusal observeCallExit
-returns c = own-refused _ _ _ _ _ (own (c .before)) (c .if1 .taken)
+returns c = own-refused _ _ _ _ _ (c .before .own-refusal .ensures) (c .if1 .taken)
 
 returns-2 : tie.Need-returns-2
 unfolding observeCallRefusal observeCallExit observeAnswer
@@ -40,8 +27,8 @@ returns-2 c =
     let at-call = at-hand .before .before in
     let at-kind = at-call .before in
     let at-own = at-kind .before in
-    let a = start-of (at-own .before) .args in
-    let passed = sym (own (at-own .before)) ∙ at-own .if1 .left in
+    let a = at-own .before .before .before .args in
+    let passed = sym (at-own .before .own-refusal .ensures) ∙ at-own .if1 .left in
     let counted = no-fault (kindCheck (a .kind) .0) unknownKind _ (omega arith) passed .1 in
     let answered : at-call .observe .result ≡ observeAnswer (kindWith (a .kind)) (a .system) (a .recording .now) (a .start) (a .windows) =
     rw (← at-kind .kind-with .ensures) (at-call .observe .ensures) in
@@ -63,8 +50,6 @@ pub kifsang-observe-spec : {M : Type 1} → statement M
 kifsang-observe-spec =
     tie.close
     (tie.spec
-    (λ c κs. search needs)
-    (λ c κs. search needs)
     (λ c κs. search needs)
     returns
     (λ c κs. search needs)
