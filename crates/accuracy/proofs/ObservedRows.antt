@@ -1,5 +1,5 @@
 -- The rows of an observation that is not refused are worked from samples, and its record is the one after their list.
-use mathlib.Core.Path.{_≡_, refl, _∙_}
+use mathlib.Core.Path.{_≡_, refl, sym, ap, _∙_}
 use mathlib.Core.Bool.{true}
 use mathlib.Core.List.{List}
 use Prim.Native.Nat.{ℕ, _<_}
@@ -13,6 +13,7 @@ use Rattle.spectrum.specs.Line.{windowAt}
 use Rattle.spectrum.proofs.Accepted as Lines
 use Rattle.groups.specs.declared.Kind.{Kind}
 use Rattle.groups.specs.Group.{windowRow}
+use Rattle.observation.specs.declared.Observation.{Observation}
 use Rattle.observation.specs.RecordAfter.{recordAfter}
 use Rattle.observation.proofs.SoundRecord.{sound-parts, fresh-of-known}
 use Rattle.observe.specs.Observe.{windowStart, windowRows, observeRefusal, observeAnswer}
@@ -34,6 +35,13 @@ module _
     pub observed-record : observeAnswer kind system recording start windows .observation ≡ after (observedList kind system recording start windows)
     unfolding observeAnswer after
     observed-record = rw (fresh-of-known system observed-system) (unlessRefused-accepted _ _ _ accepted)
+
+    pub observed-windows : observeAnswer kind system recording start windows .observation .windows ≡ windows
+    unfolding observeAnswer
+    observed-windows =
+        let follows = calls-follow kind system recording start windows in
+        let held = follows .held (follows .refusal-is ∙ accepted) in
+        ap (λ (o : Observation). o .windows) (unlessRefused-accepted _ _ _ accepted ∙ sym (held .record-is)) ∙ held .windows-are
 
     -- the row of each window
     observed-row : (i : ℕ) → i < windows →

@@ -94,6 +94,8 @@ module _ (kind : Kind) (system : ℕ) (recording : List ℤ) (start windows : �
   pub record ObservedHolds : Type 0 where
     -- the record that is answered is the one after that list
     pub same-record : observeAnswer kind system recording start windows .observation ≡ after observedList
+    -- it holds so many windows, whose rows are worked from samples
+    pub windows-held : observeAnswer kind system recording start windows .observation .windows ≡ windows
     pub worked : WorkedList kind observedList
     pub holds : ListHolds kind observedList
 

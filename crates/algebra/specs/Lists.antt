@@ -1,4 +1,4 @@
--- Lists by their places, a test over a list, and a list of tests.
+-- Lists by their places, one list after the other, a test over a list, and a list of tests.
 use mathlib.Core.Bool.{Bool, true, false, _&&_, _||_}
 use mathlib.Core.List.{List, [], _∷_, _++_}
 use Prim.Native.Nat.{ℕ, zero, suc}
@@ -8,6 +8,11 @@ module _ {ℓ} {A : Type ℓ} where
   unfoldable pub tabulate : ℕ → (ℕ → A) → List A
   tabulate zero f = []
   tabulate (suc n) f = tabulate n f ++ (f n ∷ [])
+
+  -- some lists, one after the other
+  unfoldable pub joined : List (List A) → List A
+  joined [] = []
+  joined (xs ∷ lists) = xs ++ joined lists
 
   -- some element passes the test
   unfoldable pub anyOf : (A → Bool) → List A → Bool

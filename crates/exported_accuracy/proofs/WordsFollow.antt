@@ -1,5 +1,5 @@
 -- The words of a record follow the list of document 01 that the calls have come to.
--- The invariant: before the first fresh record there are 122 words, any; after it they are the words of the record after the list.
+-- The invariant: before the first fresh record or observation there are 122 words, any; after it they are the words of the record after the list.
 use mathlib.Core.Path.{_≡_, refl, sym, ap}
 use mathlib.Core.Bool.{Bool, true, false, cond, not, _&&_}
 use mathlib.Core.List.{List, [], _∷_, _++_, append-nil}

@@ -15,7 +15,9 @@ use Rattle.accuracy.specs.Distance.{InRange}
 use Rattle.accuracy.proofs.WorkedExample.{workedRow, refusedRow, exampleList, example-worked}
 use Rattle.verdict.specs.Question.{asked}
 use Rattle.record_words.specs.Words.{recordWords}
-use Rattle.exported_accuracy.specs.Calls.{Asked, freshRecord, addRow, askVerdict, Call, wordsAfter, withCall, listAsked, listAtExit, listAfter}
+use Rattle.observe.specs.Observe.{windowRows, observeChecks, observeRefusal}
+use Rattle.kifsang.specs.Kinds.{isKind, kinds}
+use Rattle.exported_accuracy.specs.Calls.{Asked, freshRecord, observeWindows, addRow, askVerdict, Call, wordsAfter, withCall, listAsked, listAtExit, listAfter}
 use Rattle.exported_accuracy.specs.Claim.{WordsHold}
 use Rattle.exported_accuracy.proofs.ExportedDemand3.{exported-demand3}
 
@@ -32,7 +34,10 @@ module _ (kind : Kind) (window next : List ℤ) where
       -- a list that another fresh record ends
       lendingAll (freshRecord 12) ∷
       lendingAll (addRow 12 (replicate orderCount 1)) ∷
-      lendingAll (freshRecord 10) ∷
+      -- an observation, here of no window, begins a list as a fresh record does; one of no kind and one that is short change nothing
+      lendingAll (observeWindows 1 10 [] 0 0) ∷
+      lendingAll (observeWindows 5 12 [] 0 0) ∷
+      lendingAll (observeWindows 1 12 [] 0 1) ∷
       lendingAll (addRow 10 (groupValues kind 10 (linesOf window))) ∷
       -- another system, 39 values, a verdict, a fresh record of no system and 121 words change nothing
       lendingAll (addRow 12 (replicate orderCount 1)) ∷
@@ -44,7 +49,7 @@ module _ (kind : Kind) (window next : List ℤ) where
       []
 
   calls-come-to : listAfter none calls ≡ some (exampleList kind window next)
-  unfolding calls listAfter listAtExit listAsked withCall isSystem groupValues tabulate exampleList workedRow refusedRow
+  unfolding calls listAfter listAtExit listAsked withCall isKind kinds observeRefusal observeChecks windowRows isSystem groupValues tabulate exampleList workedRow refusedRow
   calls-come-to = refl
 
   calls-hold :

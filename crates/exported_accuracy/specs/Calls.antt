@@ -50,7 +50,7 @@ unfoldable pub wordsAfter : List ℕ → List Call → List ℕ
 wordsAfter words [] = words
 wordsAfter words (call ∷ calls) = wordsAfter (wordsAtExit words call) calls
 
--- one add row call more; before the first fresh record there is no list
+-- one add row call more; before the first fresh record or observation there is no list
 unfoldable pub withCall : Option CallList → Row → Option CallList
 withCall none row = none
 withCall (some list) row = some (record { system = list .system; rows = list .rows ++ (row ∷ []) })
@@ -70,7 +70,7 @@ listAsked begun (askVerdict q) = begun
 unfoldable pub listAtExit : Option CallList → Call → Option CallList
 listAtExit begun call = cond (leb recordWords (call .lent)) (listAsked begun (call .asked)) begun
 
--- the list that the calls have come to; none before the first fresh record
+-- the list that the calls have come to; none before the first fresh record or observation
 unfoldable pub listAfter : Option CallList → List Call → Option CallList
 listAfter begun [] = begun
 listAfter begun (call ∷ calls) = listAfter (listAtExit begun call) calls

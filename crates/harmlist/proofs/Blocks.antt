@@ -16,7 +16,8 @@ use Rattle.recordings.specs.declared.Reading.{Reading}
 use Rattle.recordings.specs.TextLines.{textLineBytes}
 use Rattle.recordings.specs.Blocks.{windowBytes, blockOf}
 use Rattle.recordings.specs.Ending.{outputOf}
-use Rattle.recordings.specs.Follows.{joined, readingAfter, WholeButLast, CutInBlocks}
+use Rattle.recordings.specs.Follows.{readingAfter, WholeButLast, CutInBlocks}
+use Rattle.algebra.specs.Lists.{joined}
 use Rattle.recordings.proofs.WindowAdded.{blockOf-added}
 use Rattle.recordings.proofs.Follows.{follows-definition, readingAfter-append}
 use Rattle.harmlist.specs.declared.Input.{Input}

@@ -6,9 +6,9 @@ use native.Mathlib.Nat.{add-zero, le-of-eq}
 use native.Mathlib.Omega.{arith}
 use lib.ListN.{length, getD, take, drop, length-append}
 use lib.Seq.{take-all, take-at, drop-at, take-add, drop-drop, length-take-le}
-use Rattle.algebra.specs.Lists.{tabulate}
+use Rattle.algebra.specs.Lists.{tabulate, joined}
 use Rattle.algebra.proofs.Lists.{tabulate-part}
-use Rattle.record_words.specs.Parts.{wordsFrom, partsFrom, joined, total}
+use Rattle.record_words.specs.Parts.{wordsFrom, partsFrom, total}
 
 -- a part of one word
 pub wordsFrom-one : (place : ℕ) (words : List ℕ) → getD (wordsFrom place 1 words) 0 0 ≡ getD words place 0

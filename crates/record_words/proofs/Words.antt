@@ -8,7 +8,7 @@ use native.Mathlib.Omega.{arith}
 use lib.ListN.{length, getD}
 use lib.Seq.{take-all}
 use borrow.Author.Tests.{eq-eqb}
-use Rattle.algebra.specs.Lists.{tabulate}
+use Rattle.algebra.specs.Lists.{tabulate, joined}
 use Rattle.algebra.proofs.Lists.{getD-tabulate}
 use Rattle.rows.specs.Orders.{orderCount}
 use Rattle.rows.specs.Rows.{largestValue}
@@ -16,7 +16,7 @@ use Rattle.rows.proofs.Systems.{system-bounds}
 use Rattle.observation.specs.declared.Observation.{Observation}
 use Rattle.observation.specs.Soundness.{isSound, mostWindows}
 use Rattle.observation.proofs.SoundRecord.{sound-parts}
-use Rattle.record_words.specs.Parts.{wordsFrom, partsFrom, joined, total}
+use Rattle.record_words.specs.Parts.{wordsFrom, partsFrom, total}
 use Rattle.record_words.specs.Words.{recordParts, recordWords, smoothedPlace, partsOf, ofParts, wordsOf, recordOf, recordRead, Whole, wordsWith}
 use Rattle.record_words.proofs.Parts.{joined-length, partsFrom-joined, joined-partsFrom}
 

@@ -1,5 +1,5 @@
 -- Words that hold parts one after the other.
-use mathlib.Core.List.{List, [], _∷_, _++_}
+use mathlib.Core.List.{List, [], _∷_}
 use Prim.Native.Nat.{ℕ, _+_}
 use lib.ListN.{getD}
 use Rattle.algebra.specs.Lists.{tabulate}
@@ -12,11 +12,6 @@ wordsFrom place count words = tabulate count (λ i. getD words (place + i) 0)
 unfoldable pub partsFrom : ℕ → List ℕ → List ℕ → List (List ℕ)
 partsFrom place [] words = []
 partsFrom place (count ∷ counts) words = wordsFrom place count words ∷ partsFrom (place + count) counts words
-
--- the words of parts, one part after the other
-unfoldable pub joined : List (List ℕ) → List ℕ
-joined [] = []
-joined (part ∷ parts) = part ++ joined parts
 
 -- the words of all parts
 abbrev pub total : List ℕ → ℕ

@@ -8,7 +8,8 @@ use lib.ListN.{length, getD, take}
 use Rattle.rows.specs.Orders.{orderCount}
 use Rattle.rows.specs.Rows.{largestValue}
 use Rattle.observation.specs.declared.Observation.{Observation}
-use Rattle.record_words.specs.Parts.{partsFrom, joined, total}
+use Rattle.record_words.specs.Parts.{partsFrom, total}
+use Rattle.algebra.specs.Lists.{joined}
 
 -- the counts of words of a record's parts: its system, its count of windows, and the smoothed values, the sums and the peaks of the 40 orders
 abbrev pub recordParts : List ℕ

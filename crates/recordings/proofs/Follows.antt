@@ -17,7 +17,8 @@ use Rattle.recordings.specs.InputRefusal.{isNone, textLineRefusal, first
 use Rattle.recordings.specs.Output.{windowCount, listingFor, harmlistOutput}
 use Rattle.recordings.specs.Blocks.{windowBytes, beginOf, textLinesRefusal, blockLines, refusedWith, blockOf}
 use Rattle.recordings.specs.Ending.{outputOf}
-use Rattle.recordings.specs.Follows.{joined, readingAfter, WholeButLast, FollowsDefinition, RefusedStays, StopsAtRefusal}
+use Rattle.recordings.specs.Follows.{readingAfter, WholeButLast, FollowsDefinition, RefusedStays, StopsAtRefusal}
+use Rattle.algebra.specs.Lists.{joined}
 use Rattle.recordings.proofs.NumberOnLine.{textLineNumber-cut}
 use Rattle.recordings.proofs.FirstLine.{textLineRefusal-first}
 use Rattle.recordings.proofs.BlockLaws.{blockLines-short, blockOf-refused, blockOf-empty, blockOf-text-line, blockOf-short}

@@ -4,17 +4,13 @@ use mathlib.Core.Logic.{_⊎_}
 use mathlib.Core.Path.{_≡_}
 use Prim.Native.Nat.{ℕ, _≤_, _<_}
 use lib.ListN.{length}
+use Rattle.algebra.specs.Lists.{joined}
 use Rattle.refusals.specs.Numbers.{noRefusal}
 use Rattle.recordings.specs.declared.Reading.{Reading}
 use Rattle.recordings.specs.TextLines.{textLineBytes}
 use Rattle.recordings.specs.Output.{harmlistOutput}
 use Rattle.recordings.specs.Blocks.{windowBytes, beginOf, blockOf}
 use Rattle.recordings.specs.Ending.{outputOf}
-
--- the blocks one after the other
-unfoldable pub joined : List (List ℕ) → List ℕ
-joined [] = []
-joined (block ∷ blocks) = block ++ joined blocks
 
 -- the reading after some blocks
 unfoldable pub readingAfter : Reading → List (List ℕ) → Reading

@@ -15,9 +15,9 @@ use Rattle.algebra.specs.Sums.{sumTo}
 use Rattle.sine.specs.ExactSine.{factorial, denominator, term, added, takenAway, quarterSine}
 use Rattle.sine.specs.Turn.{overHalf, overTurn}
 use Rattle.sine.specs.Wave.{tableEntry, tableSine, tableCosine}
-use Rattle.spectrum.specs.Line.{sumScale, lineSum, roundedSum, lineOf, linesFrom}
+use Rattle.spectrum.specs.Line.{sumScale, windowAt, lineSum, roundedSum, lineOf, linesFrom}
 use Rattle.algebra.specs.Integers.{square}
-use Rattle.spectrum.specs.Spectrum.{outOfRange}
+use Rattle.spectrum.specs.Spectrum.{outOfRange, linesFromRefusal, linesFromExit}
 use Rattle.spectrum.proofs.Bounds.{summand}
 
 unfoldable pub pulse : List ℤ
@@ -105,3 +105,8 @@ pair-lines = simp twoSamples-line
 pair-last-lines : linesFrom 1022 2 pair ≡ 1369 ∷ 324 ∷ []
 unfolding linesFrom tabulate square nearestℤ floorOver tableCosine tableSine overTurn overHalf tableEntry nearest quarterSine added takenAway term factorial denominator
 pair-last-lines = simp twoSamples-line
+
+-- what a call for them leaves in a buffer
+pair-exit : linesFromExit pair 0 1022 (7 ∷ 7 ∷ []) ≡ 1369 ∷ 324 ∷ []
+unfolding linesFromExit linesFromRefusal windowAt anyOf outOfRange twoSamples
+pair-exit = pair-last-lines

@@ -1,4 +1,4 @@
--- The exported calls in figures: the interface's own refusals, each two neighbouring checks in their order, and what the caller's numbers and words hold after. Each call has a table of rows and one computed theorem over it; a lent number is 77 before the call, a lent word 7. kifsang_spectrum and kifsang_write_column have no check of their own: their tables are those of `spectrum` and `columns`.
+-- The exported calls in figures: the interface's own refusals, each two neighbouring checks in their order, and what the caller's numbers and words hold after. Each call has a table of rows and one computed theorem over it; a lent number is 77 before the call, a lent word 7. kifsang_spectrum, kifsang_lines_from and kifsang_write_column have no check of their own: their tables are those of `spectrum` and `columns`.
 use mathlib.Core.Path.{_≡_, refl}
 use mathlib.Core.List.{List, [], _∷_, _++_, map}
 use Prim.Native.Nat.{ℕ, _+_, _^_}
@@ -6,7 +6,7 @@ use Prim.Native.String.{String}
 use lib.IntN.{ℤ, pos, negsuc}
 use lib.ListN.{replicate}
 use Rattle.algebra.specs.Largest.{largest}
-use Rattle.algebra.specs.Lists.{tabulate, anyOf}
+use Rattle.algebra.specs.Lists.{tabulate, anyOf, joined}
 use Rattle.algebra.specs.Weighted.{sumOver}
 use Rattle.algebra.specs.Rounding.{nearest}
 use Rattle.algebra.specs.Fraction.{whole, scale, divide}
@@ -35,7 +35,7 @@ use Rattle.columns.specs.Calls.{columnReadAnswer}
 use Rattle.listing.specs.Listing.{header, orderLine, orderText, ordersText, listingText, listingRefusal, listingExit}
 use Rattle.kifsang.specs.Kinds.{kinds, isKind, kindWith}
 use Rattle.kifsang.specs.GroupCalls.{groupCallRefusal, groupCallExit, rowCallRefusal, rowCallExit, distortionCallRefusal, distortionCallExit}
-use Rattle.record_words.specs.Parts.{wordsFrom, partsFrom, joined}
+use Rattle.record_words.specs.Parts.{wordsFrom, partsFrom}
 use Rattle.record_words.specs.Words.{partsOf, ofParts, wordsOf, recordOf}
 use Rattle.kifsang.specs.ColumnCalls.{columnCallExit}
 use Rattle.kifsang.specs.ListingCall.{listingCallRefusal, listingCallExit, listingCallCountExit}

@@ -26,11 +26,12 @@ use Rattle.verdict.specs.Question.{asked}
 use Rattle.verdict.specs.Limit.{ownFigures, figureIn, limitOf, overOrder, limitInUnits, peakLimitInUnits}
 use Rattle.accuracy.specs.Distance.{InRange, GroupsNear}
 use Rattle.accuracy.specs.CallList.{CallList, after, state}
-use Rattle.accuracy.specs.Claim.{WorkedList, LBook, UBook, reportedBook, Keeps}
+use Rattle.accuracy.specs.Claim.{WorkedList, LBook, UBook, reportedBook, Keeps, observedList}
+use Rattle.observe.specs.Observe.{observeRefusal, observeAnswer}
 use Rattle.accuracy.proofs.Demand3.{demand3}
 use Rattle.kifsang.specs.Kinds.{kinds, kindWith}
 use Rattle.kifsang.specs.GroupCalls.{groupCallRefusal, groupCallExit}
-use Rattle.kifsang.specs.RecordCalls.{verdictNumber, verdictCallRefusal, verdictCallExit}
+use Rattle.kifsang.specs.RecordCalls.{observeCallRefusal, observeCallExit, verdictNumber, verdictCallRefusal, verdictCallExit}
 use Rattle.exported_accuracy.specs.Calls.{Call, wordsAfter, listAfter}
 use Rattle.exported_accuracy.specs.Claim.{WordsHold}
 use Rattle.exported_accuracy.proofs.ExportedDemand3.{exported-demand3}
@@ -168,3 +169,44 @@ module _
     words-verdict-number k before passed =
         let given = holds .verdicts (asked 3 k) passed in
         rw (given .number before) (verdict-number-says kind list k (given .verdict) (given .kept))
+
+-- ---- an observation
+
+-- the record that `observe` answers, of any kind and system
+observed-within-12 :
+    (kind : Kind) (system : ℕ) (recording : List ℤ) (start windows order : ℕ) →
+    observeRefusal system recording start windows ≡ 0 →
+    1 ≤ order →
+    order ≤ 40 →
+    Within12 kind (observedList kind system recording start windows) order
+    (getD (observeAnswer kind system recording start windows .observation .smoothed) (order - 1) 0)
+unfolding whole _+ᶠ_ bookAt
+observed-within-12 kind system recording start windows order accepted least most l u =
+    let observed = demand3 .observed kind system recording start windows accepted in
+    let held = ap (λ (book : Book reported). book .smoothed) (observed .holds .same-books order least most) in
+    rw (observed .same-record, held)
+    (omega (arith, observed .holds .smoothed-low order least most l), omega (arith, observed .holds .smoothed-high order least most u))
+
+-- the words that kifsang_observe leaves, of harmonic groups (kind 1), and the verdict of order 3 that is then asked
+module _
+    (recording : List ℤ) (start windows system : ℕ) (before : List ℕ)
+    (accepted : observeCallRefusal 1 system recording start windows before ≡ 0)
+  where
+    observed-words-within-12 :
+        (order : ℕ) → 1 ≤ order → order ≤ 40 →
+        Within12 HarmonicGroup (observedList HarmonicGroup system recording start windows) order
+        (getD (observeCallExit 1 system recording start windows before) (2 + (order - 1)) 0)
+    unfolding whole _+ᶠ_ kindWith kinds
+    observed-words-within-12 order least most l u =
+        let held = exported-demand3 .observed recording start 1 system windows before accepted in
+        (omega (arith, held .smoothed-low order least most l), omega (arith, held .smoothed-high order least most u))
+
+    observed-verdict-number :
+        (k number : ℕ) →
+        verdictCallRefusal (observeCallExit 1 system recording start windows before) (asked 3 k) ≡ 0 →
+        NumberSays HarmonicGroup (observedList HarmonicGroup system recording start windows) k
+        (verdictCallExit (observeCallExit 1 system recording start windows before) (asked 3 k) number)
+    unfolding kindWith kinds
+    observed-verdict-number k number passed =
+        let given = exported-demand3 .observed recording start 1 system windows before accepted .verdicts (asked 3 k) passed in
+        rw (given .number number) (verdict-number-says HarmonicGroup _ k (given .verdict) (given .kept))
