@@ -51,11 +51,12 @@ records-worked = refl
 
 -- ---- fresh record
 
--- a system, the refusal, and the system of the record that is answered; the rest of it is zeros
+-- a system, and what is answered for it
 pub record Fresh : Type 0 where
   pub system : ℕ
   pub answered : RecordAnswer
 
+-- by the refusal and the system of the record that is answered; the rest of it is zeros
 abbrev fresh : ℕ → ℕ → ℕ → Fresh
 fresh system refusal recorded =
     record { system = system; answered = record { refusal = refusal; observation = observed recorded 0 0 0 0 } }
