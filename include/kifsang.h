@@ -212,7 +212,7 @@ uint32_t kifsang_lines_from(const int32_t *recording, uint64_t recording_length,
  *   5 a line above 2^59. A refused call leaves the value as it was.
  * Proved error: for the lines that kifsang_spectrum left for a window, the value is at most 7 units
  *   from the exact group (exported-demand3).
- * Definition: groupCallRefusal and groupCallExit, crates/kifsang/specs/GroupCalls.antt.
+ * Definition: groupCallRefusal and groupCallExit, crates/exported_windows/specs/GroupCalls.antt.
  */
 uint32_t kifsang_group_value(uint32_t kind, uint32_t system, uint32_t order, const uint64_t *lines,
                              uint64_t line_count, uint64_t *value);
@@ -231,7 +231,7 @@ uint32_t kifsang_group_value(uint32_t kind, uint32_t system, uint32_t order, con
  *   512; 5 a line above 2^59. A refused call leaves the values as they were.
  * Proved error: that of kifsang_group_value, for each order. For the lines that kifsang_spectrum left
  *   for a window, the row is one of those that kifsang_add_row speaks of (exported-demand3).
- * Definition: rowCallRefusal and rowCallExit, crates/kifsang/specs/GroupCalls.antt.
+ * Definition: rowCallRefusal and rowCallExit, crates/exported_windows/specs/GroupCalls.antt.
  */
 uint32_t kifsang_row(uint32_t kind, uint32_t system, const uint64_t *lines, uint64_t line_count,
                      uint32_t *values, uint64_t value_count);
@@ -247,7 +247,8 @@ uint32_t kifsang_row(uint32_t kind, uint32_t system, const uint64_t *lines, uint
  * Refusals: 102 value_count is not 40; 12 the value of order 1 is 0. A refused call leaves
  *   parts_per_thousand as it was.
  * Proved error: none, t is exact for the values that are given.
- * Definition: distortionCallRefusal and distortionCallExit, crates/kifsang/specs/GroupCalls.antt.
+ * Definition: distortionCallRefusal and distortionCallExit,
+ *   crates/exported_windows/specs/GroupCalls.antt.
  */
 uint32_t kifsang_distortion(const uint32_t *values, uint64_t value_count,
                             uint64_t *parts_per_thousand);
@@ -262,7 +263,7 @@ uint32_t kifsang_distortion(const uint32_t *values, uint64_t value_count,
  * Refusals: 102 record_words is not 122; 1 system not 10 or 12. A refused call leaves the record as
  *   it was.
  * Proved error: none.
- * Definition: freshCallRefusal and freshCallExit, crates/kifsang/specs/RecordCalls.antt.
+ * Definition: freshCallRefusal and freshCallExit, crates/exported_records/specs/RecordCalls.antt.
  */
 uint32_t kifsang_fresh_record(uint32_t system, uint64_t *record, uint64_t record_words);
 
@@ -283,7 +284,7 @@ uint32_t kifsang_fresh_record(uint32_t system, uint64_t *record, uint64_t record
  * Proved error: after any calls since a fresh record or an observation, where the rows that were added come from
  *   kifsang_spectrum and kifsang_row, all of one kind and with their own system, each smoothed value is
  *   at most 12 units from the exact one (exported-demand3).
- * Definition: addRowCallRefusal and addRowCallExit, crates/kifsang/specs/RecordCalls.antt.
+ * Definition: addRowCallRefusal and addRowCallExit, crates/exported_records/specs/RecordCalls.antt.
  */
 uint32_t kifsang_add_row(uint64_t *record, uint64_t record_words, uint32_t system,
                          const uint32_t *values, uint64_t value_count);
@@ -308,7 +309,7 @@ uint32_t kifsang_add_row(uint64_t *record, uint64_t record_words, uint32_t syste
  * Proved error: each smoothed value is at most 12 units from the exact one, and a verdict that is asked
  *   of the record keeps what kifsang_verdict says of it (exported-demand3).
  * Definition: observeAnswer, crates/observe/specs/Observe.antt, and observeCallRefusal and
- *   observeCallExit, crates/kifsang/specs/RecordCalls.antt.
+ *   observeCallExit, crates/exported_windows/specs/ObserveCall.antt.
  */
 uint32_t kifsang_observe(const int32_t *recording, uint64_t recording_length, uint64_t start,
                          uint64_t windows, uint32_t system, uint32_t kind, uint64_t *record,
@@ -330,7 +331,7 @@ uint32_t kifsang_observe(const int32_t *recording, uint64_t recording_length, ui
  *   2..40; 11 units_per_ampere outside 1..2^28. A refused call leaves the verdict as it was.
  * Proved error: after calls as above, within and over hold for the exact average and peak too; close
  *   is given only where the average or the peak is at most 12 units from its limit (exported-demand3).
- * Definition: verdictCallRefusal and verdictCallExit, crates/kifsang/specs/RecordCalls.antt.
+ * Definition: verdictCallRefusal and verdictCallExit, crates/exported_records/specs/VerdictCall.antt.
  */
 uint32_t kifsang_verdict(const uint64_t *record, uint64_t record_words, uint32_t order,
                          uint32_t units_per_ampere, uint32_t *verdict);
@@ -347,7 +348,7 @@ uint32_t kifsang_verdict(const uint64_t *record, uint64_t record_words, uint32_t
  *   as it was.
  * Proved error: none.
  * Definition: columnReadAnswer, crates/columns/specs/Calls.antt, and columnCallExit,
- *   crates/kifsang/specs/ColumnCalls.antt.
+ *   crates/exported_text/specs/ColumnCalls.antt.
  */
 uint32_t kifsang_read_column(const uint8_t *text, uint64_t text_length, int64_t *number);
 
@@ -385,7 +386,7 @@ uint32_t kifsang_write_column(uint8_t *buffer, uint64_t buffer_length, int64_t n
  *   the buffer and written as they were.
  * Proved error: none.
  * Definition: listingCallRefusal, listingCallExit and listingCallCountExit,
- *   crates/kifsang/specs/ListingCall.antt.
+ *   crates/exported_text/specs/ListingCall.antt.
  */
 uint32_t kifsang_fill_listing(const uint32_t *group, uint64_t group_count, const uint32_t *subgroup,
                               uint64_t subgroup_count, const uint32_t *smoothed,

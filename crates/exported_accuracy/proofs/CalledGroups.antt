@@ -14,9 +14,9 @@ use Rattle.groups.proofs.GroupSum.{accepted, accepted-value}
 use Rattle.rows.proofs.Orders.{order-bounds}
 use Rattle.accuracy.specs.Distance.{InRange, GroupsNear}
 use Rattle.accuracy.proofs.GroupDistance.{groups-near}
-use Rattle.kifsang.specs.Kinds.{kindWith, kindCheck}
-use Rattle.kifsang.specs.GroupCalls.{groupCallRefusal, groupCallExit, rowCallRefusal, rowCallExit}
-use Rattle.kifsang.proofs.Handed.{own-first-none}
+use Rattle.exported_windows.specs.Kinds.{kindWith, kindCheck}
+use Rattle.exported_windows.specs.GroupCalls.{groupCallRefusal, groupCallExit, rowCallRefusal, rowCallExit}
+use Rattle.record_words.proofs.Handed.{own-first-none}
 use Rattle.exported_accuracy.specs.Claim.{CalledGroup, CalledRow}
 
 module _ (recording : List ℤ) (start : ℕ) (buffer : List ℕ) (taken : spectrumRefusal recording start buffer ≡ noRefusal) where

@@ -27,13 +27,13 @@ use Rattle.observe.specs.Observe.{windowRows, observeRefusal}
 use Rattle.accuracy.specs.CallList.{CallList, after}
 use Rattle.accuracy.specs.Claim.{observedList}
 use Rattle.accuracy.proofs.ObservedRows.{observed-system}
-use Rattle.kifsang.specs.Refusals.{unknownKind, wrongWordCount, wordCountCheck, ownFirst}
-use Rattle.kifsang.specs.Kinds.{isKind, kindWith}
+use Rattle.exported_windows.specs.Kinds.{unknownKind, isKind, kindWith}
+use Rattle.record_words.specs.OwnChecks.{wrongWordCount, wordCountCheck, ownFirst}
 use Rattle.record_words.specs.Words.{recordWords, partsOf, wordsOf, recordOf, Whole}
 use Rattle.record_words.proofs.Words.{record-of-words, wordsOf-length}
-use Rattle.kifsang.specs.RecordCalls.{lentRow, freshCallRefusal, freshCallExit, observeCallRefusal, observeCallExit, addRowCallRefusal, addRowCallExit}
-use Rattle.exported_accuracy.specs.Calls.{Asked, freshRecord, observeWindows, addRow, askVerdict, Call}
-use Rattle.exported_accuracy.specs.Calls.{leftBy, wordsAtExit, wordsAfter, withCall, listAsked, listAtExit, listAfter}
+use Rattle.exported_records.specs.RecordCalls.{lentRow, freshCallRefusal, freshCallExit, addRowCallRefusal, addRowCallExit}
+use Rattle.exported_windows.specs.ObserveCall.{observeCallRefusal, observeCallExit}
+use Rattle.exported_accuracy.specs.Calls.{Asked, freshRecord, observeWindows, addRow, askVerdict, Call, leftBy, wordsAtExit, wordsAfter, withCall, listAsked, listAtExit, listAfter}
 
 -- ---- what a call leaves
 

@@ -16,7 +16,7 @@ use Rattle.accuracy.proofs.WorkedExample.{workedRow, refusedRow, exampleList, e
 use Rattle.verdict.specs.Question.{asked}
 use Rattle.record_words.specs.Words.{recordWords}
 use Rattle.observe.specs.Observe.{windowRows, observeChecks, observeRefusal}
-use Rattle.kifsang.specs.Kinds.{isKind, kinds}
+use Rattle.exported_windows.specs.Kinds.{isKind, kinds}
 use Rattle.exported_accuracy.specs.Calls.{Asked, freshRecord, observeWindows, addRow, askVerdict, Call, wordsAfter, withCall, listAsked, listAtExit, listAfter}
 use Rattle.exported_accuracy.specs.Claim.{WordsHold}
 use Rattle.exported_accuracy.proofs.ExportedDemand3.{exported-demand3}

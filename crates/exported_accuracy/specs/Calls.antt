@@ -14,9 +14,10 @@ use Rattle.verdict.specs.declared.Question.{Question}
 use Rattle.accuracy.specs.CallList.{CallList}
 use Rattle.accuracy.specs.Claim.{observedList}
 use Rattle.observe.specs.Observe.{observeRefusal}
-use Rattle.kifsang.specs.Kinds.{isKind, kindWith}
+use Rattle.exported_windows.specs.Kinds.{isKind, kindWith}
 use Rattle.record_words.specs.Words.{recordWords}
-use Rattle.kifsang.specs.RecordCalls.{lentRow, freshCallExit, observeCallExit, addRowCallExit}
+use Rattle.exported_records.specs.RecordCalls.{lentRow, freshCallExit, addRowCallExit}
+use Rattle.exported_windows.specs.ObserveCall.{observeCallExit}
 
 -- what is asked of a record's words
 pub data Asked : Type 0 where

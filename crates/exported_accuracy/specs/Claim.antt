@@ -17,10 +17,12 @@ use Rattle.verdict.specs.Call.{orderNumber}
 use Rattle.accuracy.specs.Distance.{EveryOrder, ValueNear}
 use Rattle.accuracy.specs.CallList.{CallList, after, state}
 use Rattle.accuracy.specs.Claim.{Worked, WorkedList, LBook, UBook, Keeps, ListHolds, observedList}
-use Rattle.kifsang.specs.Kinds.{kindWith}
-use Rattle.kifsang.specs.GroupCalls.{groupCallRefusal, groupCallExit, rowCallRefusal, rowCallExit}
+use Rattle.exported_windows.specs.Kinds.{kindWith}
+use Rattle.exported_windows.specs.GroupCalls.{groupCallRefusal, groupCallExit, rowCallRefusal, rowCallExit}
 use Rattle.record_words.specs.Words.{smoothedPlace, recordWords, wordsOf}
-use Rattle.kifsang.specs.RecordCalls.{lentRow, observeCallRefusal, observeCallExit, verdictNumber, verdictCallRefusal, verdictCallExit}
+use Rattle.exported_records.specs.RecordCalls.{lentRow}
+use Rattle.exported_windows.specs.ObserveCall.{observeCallRefusal, observeCallExit}
+use Rattle.exported_records.specs.VerdictCall.{verdictNumber, verdictCallRefusal, verdictCallExit}
 use Rattle.exported_accuracy.specs.Calls.{Call, wordsAfter, listAfter}
 
 -- the word of an order's smoothed value

@@ -1,3 +1,4 @@
 -- The laws of parts and of a record's words.
 pub mod Parts
 pub mod Words
+pub mod Handed

@@ -23,3 +23,6 @@ const SUM_PLACE: usize = SMOOTHED_PLACE + ORDER_COUNT;
 const PEAK_PLACE: usize = SUM_PLACE + ORDER_COUNT;
 // The words of a record.
 pub const RECORD_WORDS: usize = PEAK_PLACE + ORDER_COUNT;
+
+// A slice of the wrong number of words for a row or a record: a refusal of an exported call's own.
+pub const WRONG_WORD_COUNT: u32 = 102;

@@ -33,13 +33,15 @@ use Rattle.columns.specs.Text.{bytesOf, rightJustified}
 use Rattle.columns.specs.Column.{areDigits, isWhole, placeValue, wholeNumber, negativeNumber, signedNumber, afterBlanks, columnNumber, decimalWithin, decimalText, numberText, columnText}
 use Rattle.columns.specs.Calls.{columnReadAnswer}
 use Rattle.listing.specs.Listing.{header, orderLine, orderText, ordersText, listingText, listingRefusal, listingExit}
-use Rattle.kifsang.specs.Kinds.{kinds, isKind, kindWith}
-use Rattle.kifsang.specs.GroupCalls.{groupCallRefusal, groupCallExit, rowCallRefusal, rowCallExit, distortionCallRefusal, distortionCallExit}
+use Rattle.exported_windows.specs.Kinds.{kinds, isKind, kindWith}
+use Rattle.exported_windows.specs.GroupCalls.{groupCallRefusal, groupCallExit, rowCallRefusal, rowCallExit, distortionCallRefusal, distortionCallExit}
 use Rattle.record_words.specs.Parts.{wordsFrom, partsFrom}
 use Rattle.record_words.specs.Words.{partsOf, ofParts, wordsOf, recordOf}
-use Rattle.kifsang.specs.ColumnCalls.{columnCallExit}
-use Rattle.kifsang.specs.ListingCall.{listingCallRefusal, listingCallExit, listingCallCountExit}
-use Rattle.kifsang.specs.RecordCalls.{freshCallRefusal, freshCallExit, observeCallRefusal, observeCallExit, addRowCallRefusal, addRowCallExit, verdictNumber, verdictCallRefusal, verdictCallExit}
+use Rattle.exported_text.specs.ColumnCalls.{columnCallExit}
+use Rattle.exported_text.specs.ListingCall.{listingCallRefusal, listingCallExit, listingCallCountExit}
+use Rattle.exported_records.specs.RecordCalls.{freshCallRefusal, freshCallExit, addRowCallRefusal, addRowCallExit}
+use Rattle.exported_windows.specs.ObserveCall.{observeCallRefusal, observeCallExit}
+use Rattle.exported_records.specs.VerdictCall.{verdictNumber, verdictCallRefusal, verdictCallExit}
 
 -- each row is what a call answers and leaves, and the same in figures
 Alike : {A : Type 0} → List ((ℕ × A) × (ℕ × A)) → Type 0

@@ -29,9 +29,10 @@ use Rattle.accuracy.specs.CallList.{CallList, after, state}
 use Rattle.accuracy.specs.Claim.{WorkedList, LBook, UBook, reportedBook, Keeps, observedList}
 use Rattle.observe.specs.Observe.{observeRefusal, observeAnswer}
 use Rattle.accuracy.proofs.Demand3.{demand3}
-use Rattle.kifsang.specs.Kinds.{kinds, kindWith}
-use Rattle.kifsang.specs.GroupCalls.{groupCallRefusal, groupCallExit}
-use Rattle.kifsang.specs.RecordCalls.{observeCallRefusal, observeCallExit, verdictNumber, verdictCallRefusal, verdictCallExit}
+use Rattle.exported_windows.specs.Kinds.{kinds, kindWith}
+use Rattle.exported_windows.specs.GroupCalls.{groupCallRefusal, groupCallExit}
+use Rattle.exported_windows.specs.ObserveCall.{observeCallRefusal, observeCallExit}
+use Rattle.exported_records.specs.VerdictCall.{verdictNumber, verdictCallRefusal, verdictCallExit}
 use Rattle.exported_accuracy.specs.Calls.{Call, wordsAfter, listAfter}
 use Rattle.exported_accuracy.specs.Claim.{WordsHold}
 use Rattle.exported_accuracy.proofs.ExportedDemand3.{exported-demand3}

@@ -1,0 +1,2 @@
+-- What the proofs about an exported verdict use.
+pub mod VerdictCases

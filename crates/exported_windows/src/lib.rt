@@ -1,0 +1,8 @@
+// The calls for C, C++ and Rust programs from a recording's window to its lines, groups and record;
+// include/kifsang.h declares them. Each passes numbers, single-number references and slices on to the
+// proved library. It answers a refusal's number, NO_REFUSAL where it accepts the call, and a refused
+// call leaves every buffer as it was.
+mod group_calls;
+mod kinds;
+mod line_calls;
+mod observe_call;

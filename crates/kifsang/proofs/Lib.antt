@@ -1,3 +1,0 @@
--- What the proofs of several exported functions use.
-pub mod Handed
-pub mod VerdictCases
