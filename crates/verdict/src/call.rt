@@ -60,12 +60,10 @@ fn combined(
 ) -> Verdict
     ensures { λ r. ⌜ r ≡ combined average limit peak «peak_limit» order ⌝ }
 {
-    let over = is_over(average, limit) | is_over(peak, peak_limit);
-    let within = is_within(average, limit) & is_within(peak, peak_limit);
-    if over {
+    if is_over(average, limit) | is_over(peak, peak_limit) {
         return Verdict::Over(order);
     }
-    if within {
+    if is_within(average, limit) & is_within(peak, peak_limit) {
         return Verdict::Within(order);
     }
     Verdict::Close(order)
