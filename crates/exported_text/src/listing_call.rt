@@ -4,7 +4,6 @@ use record_words::hand_over;
 use refusals::NO_REFUSAL;
 use refusals::fault_or;
 use rows::ORDER_COUNT;
-use rows::first_values;
 ghost use mathlib.Core.Path.{_≡_};
 ghost use Rattle.exported_text.specs.ListingCall.{listingCallRefusal, listingCallExit, listingCallCountExit};
 
@@ -31,9 +30,6 @@ pub extern "C" fn kifsang_fill_listing(
     if own != NO_REFUSAL {
         return own;
     }
-    let group_values = first_values(group);
-    let subgroup_values = first_values(subgroup);
-    let smoothed_values = first_values(smoothed);
-    let answer = listing::fill_listing(&group_values, &subgroup_values, &smoothed_values, buffer);
+    let answer = listing::fill_listing(group, subgroup, smoothed, buffer);
     hand_over(answer, written)
 }

@@ -3,6 +3,7 @@
 use crate::LISTING_ROOM;
 use crate::put::put_column;
 use columns::NEWLINE;
+use lists::number_at;
 use refusals::Answer;
 use refusals::NO_REFUSAL;
 use refusals::WRONG_BUFFER_LENGTH;
@@ -21,13 +22,9 @@ const ORDER_WIDTH: usize = 3;
 
 const VALUE_WIDTH: usize = 12;
 
-// Fills the buffer with the listing of the 40 orders' values, and answers the count of its bytes.
-pub fn fill_listing(
-    group: &[u32; ORDER_COUNT],
-    subgroup: &[u32; ORDER_COUNT],
-    smoothed: &[u32; ORDER_COUNT],
-    buffer: &mut [u8],
-) -> Answer
+// Fills the buffer with the listing of the 40 orders' values, and answers the count of its bytes. Values
+// that are missing count as 0.
+pub fn fill_listing(group: &[u32], subgroup: &[u32], smoothed: &[u32], buffer: &mut [u8]) -> Answer
     ensures { λ r. ⌜ r ≡ listingAnswer (now (buffer .entry)) (now (group .entry)) (now (subgroup .entry)) (now (smoothed .entry)) ⌝ }
     ensures { λ _. ⌜ now (buffer .exit) ≡ listingExit (now (buffer .entry)) (now (group .entry)) (now (subgroup .entry)) (now (smoothed .entry)) ⌝ }
 {
@@ -49,9 +46,9 @@ pub fn fill_listing(
 fn put_orders(
     buffer: &mut [u8],
     start: usize,
-    group: &[u32; ORDER_COUNT],
-    subgroup: &[u32; ORDER_COUNT],
-    smoothed: &[u32; ORDER_COUNT],
+    group: &[u32],
+    subgroup: &[u32],
+    smoothed: &[u32],
 ) -> usize
     requires { ⌜ start + textLineLength * orderCount ≤ length (now buffer) ⌝ }
     ensures { λ r. ⌜ Put (now (buffer .entry)) start (ordersText orderCount (now (group .entry)) (now (subgroup .entry)) (now (smoothed .entry))) r (now (buffer .exit)) ⌝ }
@@ -64,9 +61,9 @@ fn put_orders(
             buffer,
             at,
             done + 1,
-            group[done],
-            subgroup[done],
-            smoothed[done],
+            number_at(group, done),
+            number_at(subgroup, done),
+            number_at(smoothed, done),
         );
         done += 1;
     }

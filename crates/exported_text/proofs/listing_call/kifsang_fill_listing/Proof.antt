@@ -4,14 +4,12 @@ use mathlib.Core.List.{List, [], _∷_, _++_}
 use Prim.Native.Nat.{ℕ}
 use borrow.Author.Needs.{needs}
 use lib.ListN.{length, drop}
-use Rattle.refusals.specs.Numbers.{noRefusal}
 use Rattle.refusals.specs.Answers.{firstFault}
 use Rattle.rows.specs.Orders.{orderCount}
-use Rattle.rows.proofs.Rows.{firstValues-whole}
 use Rattle.listing.specs.Listing.{listingText, listingRefusal, listingExit}
 use Rattle.record_words.specs.OwnChecks.{wordCountCheck}
 use Rattle.exported_text.specs.ListingCall.{listingCallRefusal, listingCallExit, listingCallCountExit}
-use Rattle.record_words.proofs.Handed.{own-refused, count-passed, received-eq, handed-answer}
+use Rattle.record_words.proofs.Handed.{own-refused, received-eq, handed-answer}
 use Rattle.exported_text.proofs.listing_call.kifsang_fill_listing.Statement.{statement}
 use Rattle.exported_text.proofs.listing_call.kifsang_fill_listing.Tie as tie
 
@@ -38,10 +36,7 @@ returns-2 : tie.Need-returns-2
 unfolding listingCallRefusal listingCallExit listingCallCountExit listingExit
 returns-2 c =
     let at-fill = c .before .before .before .before in
-    let at-smoothed = at-fill .before .before .before .before .before in
-    let at-subgroup = at-smoothed .before in
-    let at-group = at-subgroup .before in
-    let at-own = at-group .before in
+    let at-own = at-fill .before .before in
     let a = at-own .before .before .before .before .before .before .before .before .args in
     let group = a .group .now in
     let subgroup = a .subgroup .now in
@@ -49,24 +44,10 @@ returns-2 c =
     let buffer = a .buffer .now in
     let text = listingText group subgroup smoothed in
     let passed = sym (own (at-own .before)) ∙ at-own .if1 .left in
-    let whole-group = count-passed orderCount _ group passed in
-    let whole-subgroup = count-passed orderCount _ subgroup (whole-group .1) in
-    let whole-smoothed = count-passed orderCount noRefusal smoothed (whole-subgroup .1) in
-    let filled =
-    rw (
-      at-group .first-values .ensures ∙ firstValues-whole group (whole-group .0),
-      at-subgroup .first-values2 .ensures ∙ firstValues-whole subgroup (whole-subgroup .0),
-      at-smoothed .first-values3 .ensures ∙ firstValues-whole smoothed (whole-smoothed .0),
-    )
-    at (at-fill .fill-listing .ensures) in
+    let filled = at-fill .fill-listing .ensures in
     let handed = handed-answer (listingRefusal buffer) (length text) (a .written .now) _ _ _ (filled .0) (c .hand-over .ensures) in
-    rw passed (
-      handed .0,
-      (
-        filled .1 ∙ sym (received-eq (λ (x : List ℕ). x) (listingRefusal buffer) (text ++ drop (length text) buffer) buffer buffer),
-        handed .1,
-      ),
-    )
+    let written = received-eq (λ (x : List ℕ). x) (listingRefusal buffer) (text ++ drop (length text) buffer) buffer buffer in
+    rw passed (handed .0, (rw written (filled .1), handed .1))
 
 pub kifsang-fill-listing-spec : {M : Type 1} → statement M
 kifsang-fill-listing-spec =
@@ -76,9 +57,6 @@ kifsang-fill-listing-spec =
     (λ c κs. search needs)
     (λ c κs. search needs)
     returns
-    (λ c κs. search needs)
-    (λ c κs. search needs)
-    (λ c κs. search needs)
     (λ c κs. search needs)
     (λ c κs. search needs)
     (λ c. search needs)

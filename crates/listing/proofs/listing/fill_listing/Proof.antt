@@ -20,10 +20,10 @@ returns c =
 
 -- the bytes copied are the header
 header-put : (c : tie.After-copy)
-    → Put (c .before .before .before .before .before .args .buffer .now) 0 header (c .copy .result) (c .copy .last .1 .0)
+    → Put (c .before .before .before .before .before .before .before .before .args .buffer .now) 0 header (c .copy .result) (c .copy .last .1 .0)
 unfolding header bytesOf rightJustified
 header-put c =
-    let buffer = c .before .before .before .before .before .args .buffer .now in
+    let buffer = c .before .before .before .before .before .before .before .before .args .buffer .now in
     rw (c .copy .ensures .0, c .copy .ensures .1) (put-copy buffer header textLineLength header-length (omega arith))
 
 returns-2 : tie.Need-returns-2

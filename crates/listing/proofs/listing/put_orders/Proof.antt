@@ -3,6 +3,7 @@ use mathlib.Core.Path.{_≡_}
 use Prim.Native.Nat.{_+_, _-_, _*_, _≤_}
 use native.Mathlib.Numerals.{add-one}
 use native.Mathlib.Omega.{arith}
+use borrow.Author.Needs.{needs}
 use Rattle.rows.specs.Orders.{orderCount}
 use Rattle.listing.specs.Put.{Put}
 use Rattle.listing.specs.Listing.{textLineLength, ordersText}
@@ -19,7 +20,9 @@ abbrev μ-loop : tie.MeasureT-loop
 
 loop-holds : tie.Need-loop-holds Inv-loop μ-loop
 unfolding ordersText
-loop-holds c = (omega arith, omega arith, put-none (c .before .args .buffer .now) (c .before .args .start))
+loop-holds c =
+    let a = c .before .before .before .before .args in
+    (omega arith, omega arith, put-none (a .buffer .now) (a .start))
 
 put-order-requires : tie.Need-put-order-requires Inv-loop μ-loop
 put-order-requires c κs =
@@ -30,8 +33,19 @@ loop-again : tie.Need-loop-again Inv-loop μ-loop
 unfolding ordersText
 loop-again c =
     let l = c .before .before .before .before .before .before .before .before .loop in
-    let order = c .before .before .put-order .ensures in
-    (omega arith, omega (arith, order .1), rw add-one (put-then (l .inv .2) (rw add-one at (order .0))))
+    let at-put = c .before .before in
+    let at-smoothed = at-put .before in
+    let at-subgroup = at-smoothed .before in
+    let order = at-put .put-order .ensures in
+    let put =
+    rw (
+      at-subgroup .before .number-at .ensures,
+      at-subgroup .number-at2 .ensures,
+      at-smoothed .number-at3 .ensures,
+      add-one,
+    )
+    at (order .0) in
+    (omega arith, omega (arith, order .1), rw add-one (put-then (l .inv .2) put))
 
 same-length : tie.Need-same-length Inv-loop μ-loop
 same-length c = put-length (c .before .loop .inv .2)
@@ -50,12 +64,9 @@ put-orders-spec =
     μ-loop
     loop-holds
     (λ c. omega arith)
-    (λ c. omega arith)
-    (λ c. omega arith)
-    (λ c. omega arith)
-    (λ c. omega arith)
-    (λ c. omega arith)
-    (λ c. omega arith)
+    (λ c κs. search needs)
+    (λ c κs. search needs)
+    (λ c κs. search needs)
     put-order-requires
     (λ c. omega arith)
     (λ c. omega arith)

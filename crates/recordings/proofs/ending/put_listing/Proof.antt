@@ -17,4 +17,12 @@ returns c = rw (c .before .before .before .before .before .before .before .narro
 
 pub put-listing-spec : {M : Type 1} → statement M
 put-listing-spec =
-    tie.close (tie.spec narrowed-requires (λ c κs. search needs) (λ c. search needs) returns)
+    tie.close
+    (tie.spec
+    narrowed-requires
+    (λ c. search needs)
+    (λ c. search needs)
+    (λ c. search needs)
+    (λ c κs. search needs)
+    (λ c. search needs)
+    returns)
