@@ -14,7 +14,6 @@ use Rattle.spectrum.proofs.Accepted as Lines
 use Rattle.groups.specs.declared.Kind.{Kind}
 use Rattle.groups.specs.Group.{windowRow}
 use Rattle.observation.specs.declared.Observation.{Observation}
-use Rattle.observation.specs.RecordAfter.{recordAfter}
 use Rattle.observation.proofs.SoundRecord.{sound-parts, fresh-of-known}
 use Rattle.observe.specs.Observe.{windowStart, windowRows, observeRefusal, observeAnswer}
 use Rattle.observe.proofs.Observed.{calls-follow, calls-accepted}

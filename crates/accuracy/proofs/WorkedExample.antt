@@ -2,11 +2,11 @@
 -- Of the pulse's harmonic groups, document 01's 8944, the third order is then judged over, close and within at K = 3883, 3884 .. 3893 and 3894.
 use mathlib.Core.Path.{_≡_, refl, sym, ap, subst, _∙_}
 use mathlib.Core.List.{List, [], _∷_}
-use Prim.Native.Nat.{ℕ, _+_, _-_}
+use Prim.Native.Nat.{ℕ, _-_}
 use native.Mathlib.Omega.{arith}
 use lib.IntN.{ℤ}
 use lib.ListN.{replicate}
-use Rattle.algebra.specs.Fraction.{whole, scale, divide}
+use Rattle.algebra.specs.Fraction.{whole, times, divide}
 use Rattle.algebra.specs.Largest.{largest}
 use Rattle.algebra.specs.Lists.{tabulate, anyOf}
 use Rattle.algebra.specs.Rounding.{nearest}
@@ -48,17 +48,17 @@ unfolding workedRow
 worked-row kind window in-range = record { in-range = in-range; values = refl }
 
 -- of another system, so that it is refused
-unfoldable pub refusedRow : Row
-refusedRow = record { system = 12; values = replicate orderCount 1 }
+unfoldable pub otherSystemRow : Row
+otherSystemRow = record { system = 12; values = replicate orderCount 1 }
 
 module _ (kind : Kind) (window next : List ℤ) where
   unfoldable pub exampleList : CallList
   exampleList =
-      record { system = 10; rows = workedRow kind window ∷ refusedRow ∷ workedRow kind next ∷ [] }
+      record { system = 10; rows = workedRow kind window ∷ otherSystemRow ∷ workedRow kind next ∷ [] }
 
   module _ (in-range : InRange window) (next-in-range : InRange next) where
     pub example-worked : WorkedList kind exampleList
-    unfolding WorkedList EachAccepted accepts rowChecks isSystem exampleList workedRow refusedRow
+    unfolding WorkedList EachAccepted accepts rowChecks isSystem exampleList workedRow otherSystemRow
     example-worked = ((window, worked-row kind window in-range), ((next, worked-row kind next next-in-range), tt))
 
     -- the record holds the reported books
@@ -68,7 +68,7 @@ module _ (kind : Kind) (window next : List ℤ) where
 
     -- the refused row isn't counted
     two-windows : after exampleList .windows ≡ 2
-    unfolding reportedFrom bookAfter bookCall ownValues accepts rowChecks isSystem exampleList workedRow refusedRow bookStep emptyBook bookAt
+    unfolding reportedFrom bookAfter bookCall ownValues accepts rowChecks isSystem exampleList workedRow otherSystemRow bookStep emptyBook bookAt
     two-windows = ap (λ (book : Book reported). book .count) (example-books 1 (omega arith) (omega arith))
 
 -- ---- the pulse
@@ -94,7 +94,7 @@ pulsed = after (exampleList HarmonicGroup pulse pulse)
 
 -- the third order after the list
 pulse-book : bookAt pulsed 2 ≡ record { count = 2; smoothed = 8944; sum = 17888; peak = 8944 }
-unfolding reportedFrom bookAfter bookCall ownValues accepts rowChecks isSystem exampleList workedRow refusedRow bookStep emptyBook smoothedNext smoothedValue nearest tabulate groupValues
+unfolding reportedFrom bookAfter bookCall ownValues accepts rowChecks isSystem exampleList workedRow otherSystemRow bookStep emptyBook smoothedNext smoothedValue nearest tabulate groupValues
 pulse-book = example-books HarmonicGroup pulse pulse pulse-window pulse-window 3 (omega arith) (omega arith) ∙ rw pulse-group
 
 -- 2.3 × K is 8930.9, 8933.2, 8953.9 and 8956.2, and 150 % of each is above the peak with the margin
@@ -103,7 +103,7 @@ pulse-verdicts :
     (verdictOf pulsed (asked 3 3884) ≡ Close 3) ×
     (verdictOf pulsed (asked 3 3893) ≡ Close 3) ×
     (verdictOf pulsed (asked 3 3894) ≡ Within 3)
-unfolding verdictOf averageOf peakOf bookAt combined raised atMost isOver isWithin limitInUnits peakLimitInUnits limitOf figureIn ownFigures overOrder whole scale divide
+unfolding verdictOf averageOf peakOf bookAt combined raised atMost isOver isWithin limitInUnits peakLimitInUnits limitOf figureIn ownFigures overOrder whole times divide
 pulse-verdicts =
     subst
     (λ (book : Book reported).

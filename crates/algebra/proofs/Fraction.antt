@@ -9,7 +9,7 @@ use native.Mathlib.Bridge.{le-prop}
 use native.Mathlib.Nat.{le-refl, le-of-lt, le-of-suc-le-suc, mul-le-mul, mul-le-mul-left, mul-le-mul-right, le-of-mul-le-mul-right}
 use native.Mathlib.Omega.{arith, by-contra}
 use lib.Dec.{T, leb, leb→le, nleb→lt, lit<, lit≤}
-use Rattle.algebra.specs.Fraction.{Fraction, whole, _≤ᶠ_, _<ᶠ_, _+ᶠ_, scale, divide, square, maximum, mix, Side, lower, upper, Within, Near, RootBound, SquareWithin}
+use Rattle.algebra.specs.Fraction.{Fraction, whole, _≤ᶠ_, _<ᶠ_, _+ᶠ_, times, divide, square, maximum, mix, Side, lower, upper, Within, Near, RootBound, SquareWithin}
 use Rattle.algebra.specs.Rounding.{nearest}
 use Rattle.algebra.proofs.Rounding.{nearest-is}
 
@@ -28,8 +28,8 @@ half-below-two-thirds : (half <ᶠ two-thirds) × (half ≤ᶠ two-thirds) × (�
 unfolding half two-thirds
 half-below-two-thirds = omega arith
 
-operations-worked : _≡_ {A = List (ℕ × ℕ)} (map parts (whole 4 ∷ (half +ᶠ two-thirds) ∷ scale 3 half ∷ divide two-thirds 4 (lit< tt) ∷ square two-thirds ∷ maximum half two-thirds ∷ mix 1 3 (lit< tt) half two-thirds ∷ [])) ((4, 1) ∷ (7, 6) ∷ (3, 2) ∷ (2, 12) ∷ (4, 9) ∷ (2, 3) ∷ (15, 24) ∷ [])
-unfolding parts half two-thirds whole _+ᶠ_ scale divide square maximum mix
+operations-worked : _≡_ {A = List (ℕ × ℕ)} (map parts (whole 4 ∷ (half +ᶠ two-thirds) ∷ times 3 half ∷ divide two-thirds 4 (lit< tt) ∷ square two-thirds ∷ maximum half two-thirds ∷ mix 1 3 (lit< tt) half two-thirds ∷ [])) ((4, 1) ∷ (7, 6) ∷ (3, 2) ∷ (2, 12) ∷ (4, 9) ∷ (2, 3) ∷ (15, 24) ∷ [])
+unfolding parts half two-thirds whole _+ᶠ_ times divide square maximum mix
 operations-worked = refl
 
 -- 5/2 ≤ 1 + 2 but not 7/2; 4 ≤ 7/2 + 2 but not 6
@@ -97,9 +97,9 @@ pub whole-add : (s t : ℕ) → whole s +ᶠ whole t ≡ whole (s + t)
 unfolding whole _+ᶠ_
 whole-add s t = fraction-eq (omega arith) refl
 
-pub whole-scale : (k s : ℕ) → scale k (whole s) ≡ whole (k * s)
-unfolding whole scale
-whole-scale k s = refl
+pub whole-times : (k s : ℕ) → times k (whole s) ≡ whole (k * s)
+unfolding whole times
+whole-times k s = refl
 
 pub whole-maximum : (s t : ℕ) → maximum (whole s) (whole t) ≡ whole (max s t)
 unfolding whole
@@ -121,9 +121,9 @@ pub near-weaken : {side : Side} {p q : Fraction} {m n : ℕ} → m ≤ n → Nea
 unfolding whole _+ᶠ_
 near-weaken h = near-map (λ p. p) (λ p q l. omega (arith, mul-le-mul-right (p .den * q .den) h))
 
-pub near-scale : {side : Side} (k : ℕ) {p q : Fraction} {m : ℕ} → Near side p q m → Near side (scale k p) (scale k q) (k * m)
-unfolding whole _+ᶠ_ scale
-near-scale k = near-map (scale k) (λ p q l. omega (arith, mul-le-mul-left k l))
+pub near-times : {side : Side} (k : ℕ) {p q : Fraction} {m : ℕ} → Near side p q m → Near side (times k p) (times k q) (k * m)
+unfolding whole _+ᶠ_ times
+near-times k = near-map (times k) (λ p q l. omega (arith, mul-le-mul-left k l))
 
 -- an average is as near as the sum over the count
 pub near-divide : {side : Side} {p q : Fraction} (n m : ℕ) (positive : 0 < n) → Near side p q (n * m) → Near side (divide p n positive) (divide q n positive) m
@@ -165,7 +165,7 @@ pub near-mix : {side : Side} (a b new old : ℕ) {p q : Fraction} {k m : ℕ} (p
 unfolding mix
 near-mix a b new old positive l h k =
     near-nearest (a * new + b * old) (a + b) positive l
-    (rw (whole-scale a new, whole-scale b old, whole-add (a * new) (b * old)) at (near-add (near-scale a h) (near-scale b k)))
+    (rw (whole-times a new, whole-times b old, whole-add (a * new) (b * old)) at (near-add (near-times a h) (near-times b k)))
 
 -- from squares to the numbers
 pub near-root : (side : Side) (r k : ℕ) (q g : Fraction) → SquareWithin side r g k → RootBound side q g → Near side (whole r) q k

@@ -5,7 +5,7 @@ use mathlib.Core.Bool.{Bool, true, false, _||_}
 use mathlib.Core.List.{List, [], _∷_, _++_, append-assoc, append-nil}
 use Prim.Native.Nat.{ℕ, zero, suc, min, _+_, _<_, _≤_}
 use native.Mathlib.Numerals.{add-one}
-use native.Mathlib.Nat.{add-zero, add-suc, eq-or-lt-of-le, le-of-suc-le-suc, not-suc-le-zero}
+use native.Mathlib.Nat.{eq-or-lt-of-le, le-of-suc-le-suc, not-suc-le-zero}
 use native.Mathlib.Decide.{decLt}
 use native.Mathlib.Omega.{arith}
 use lib.ListN.{length, getD, take, drop, set, replicate, length-append, length-drop, length-replicate, getD-replicate, drop-of-length-le, List·getD-append, List·getD-eq-default}
@@ -27,13 +27,6 @@ module _ {ℓ} {A : Type ℓ} where
       (λ (l : i < n).
       List·getD-append (tabulate n f) (f n ∷ []) d i (rw (length-tabulate n f) l) ∙ getD-tabulate n f i d l)
       (eq-or-lt-of-le (le-of-suc-le-suc h))
-
-  -- a front of m entries and the n after them
-  pub tabulate-split : (m n : ℕ) (f : ℕ → A) → tabulate (m + n) f ≡ tabulate m f ++ tabulate n (λ i. f (m + i))
-  unfolding tabulate
-  tabulate-split m zero f = rw add-zero (sym (append-nil (tabulate m f)))
-  tabulate-split m (suc n) f =
-      rw (add-suc, tabulate-split m n f) (append-assoc (tabulate m f) (tabulate n (λ i. f (m + i))) (f (m + n) ∷ []))
 
   -- the entry after a front of n entries is written
   pub set-tabulate : (n : ℕ) (f : ℕ → A) (y : A) (ys : List A) → set (tabulate n f ++ y ∷ ys) n (f n) ≡ tabulate (n + 1) f ++ ys

@@ -34,8 +34,8 @@ p +ᶠ q = record {
 }
 
 -- a whole number of times
-unfoldable pub scale : ℕ → Fraction → Fraction
-scale k p = record { num = k * p .num; den = p .den; den-pos = p .den-pos }
+unfoldable pub times : ℕ → Fraction → Fraction
+times k p = record { num = k * p .num; den = p .den; den-pos = p .den-pos }
 
 -- an n-th part, as document 01's average, sum/count
 unfoldable pub divide : Fraction → (n : ℕ) → 0 < n → Fraction
@@ -50,7 +50,7 @@ maximum p q = cond (leb (p .num * q .den) (q .num * p .den)) q p
 
 -- the mean with whole weights, (a×p + b×q) / (a + b), unrounded: the smoothing of document 01's exact book
 unfoldable pub mix : (a b : ℕ) → 0 < a + b → Fraction → Fraction → Fraction
-mix a b positive p q = divide (scale a p +ᶠ scale b q) (a + b) positive
+mix a b positive p q = divide (times a p +ᶠ times b q) (a + b) positive
 
 -- the side from which an exact value bounds another: document 01's l books from below, its u books from above
 pub data Side : Type 0 where

@@ -13,8 +13,8 @@ use Rattle.algebra.specs.Weighted.{sumOver}
 use Rattle.algebra.proofs.Largest.{Bounded, largest-le, largest-ge, largest-eq}
 use Rattle.integers.specs.Root.{rootOf, rootLimit}
 use Rattle.integers.proofs.Root.{root-law}
-use Rattle.limbs.specs.Wide.{valueOf, limbsOf}
-use Rattle.limbs.proofs.Wide.{valueOf-limbsOf-lt}
+use Rattle.limbs.specs.Limbs.{valueOf, limbsOf}
+use Rattle.limbs.proofs.Limbs.{valueOf-limbsOf-lt}
 use Rattle.wide_numbers.specs.WideNumbers.{wideLimbs}
 use Rattle.rows.specs.Orders.{orderCount}
 use Rattle.distortion.specs.Distortion.{sumOfSquares, squaredThousand, distortionDigits, distortionOf}

@@ -12,7 +12,7 @@ use Rattle.groups.specs.Group.{groupValues}
 use Rattle.rows.specs.Systems.{isSystem}
 use Rattle.rows.specs.Orders.{orderCount}
 use Rattle.accuracy.specs.Distance.{InRange}
-use Rattle.accuracy.proofs.WorkedExample.{workedRow, refusedRow, exampleList, example-worked}
+use Rattle.accuracy.proofs.WorkedExample.{workedRow, otherSystemRow, exampleList, example-worked}
 use Rattle.verdict.specs.Question.{asked}
 use Rattle.record_words.specs.Words.{recordWords}
 use Rattle.observe.specs.Observe.{windowRows, observeChecks, observeRefusal}
@@ -49,7 +49,7 @@ module _ (kind : Kind) (window next : List ℤ) where
       []
 
   calls-come-to : listAfter none calls ≡ some (exampleList kind window next)
-  unfolding calls listAfter listAtExit listAsked withCall isKind kinds observeRefusal observeChecks windowRows isSystem groupValues tabulate exampleList workedRow refusedRow
+  unfolding calls listAfter listAtExit listAsked withCall isKind kinds observeRefusal observeChecks windowRows isSystem groupValues tabulate exampleList workedRow otherSystemRow
   calls-come-to = refl
 
   calls-hold :

@@ -1,15 +1,14 @@
 -- Laws of the weighted sum over any list of weights, and over any span: every line is before the span's end, and the sum of 2×w×L is twice the sum of the lines, less one line at each end where the ends are half.
 -- Of the kinds' spans: for systems 10 and 12 twice the weights add up to at most 24, and for orders 1..40 the span ends among the 512 lines.
-use mathlib.Core.Path.{_≡_, refl, sym, ap, _∙_}
+use mathlib.Core.Path.{_≡_, refl, sym, ap}
 use mathlib.Core.Bool.{Bool, true, false, cond, true≢false}
 use mathlib.Core.Logic.{⊎-elim}
-use mathlib.Core.List.{List, [], _∷_, _++_}
-use Prim.Native.Nat.{ℕ, zero, suc, _+_, _-_, _*_, _/_, _≤_, _<_}
+use mathlib.Core.List.{List}
+use Prim.Native.Nat.{ℕ, zero, suc, _+_, _-_, _*_, _≤_, _<_}
 use native.Mathlib.Numerals.{add-one}
 use native.Mathlib.Nat.{mul-le-mul, mul-le-mul-left, eq-or-lt-of-le, le-of-suc-le-suc}
 use native.Mathlib.Omega.{arith}
 use borrow.Author.Tests.{eq-eqb, ne-eqb}
-use lib.Dec.{eqb}
 use Rattle.algebra.specs.Lists.{tabulate}
 use Rattle.algebra.specs.Weighted.{sumOver, Everywhere}
 use Rattle.algebra.proofs.Weighted.{sumOver-append, sumOver-eq, sumOver-le-multiple, everywhere-append, everywhere-imp, everywhere-all}

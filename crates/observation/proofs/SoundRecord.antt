@@ -15,7 +15,7 @@ use Rattle.rows.specs.Systems.{isSystem}
 use Rattle.rows.specs.Orders.{orderCount}
 use Rattle.refusals.specs.Numbers.{noRefusal, unknownSystem, unsoundRecord, otherSystem, recordFull}
 use Rattle.refusals.specs.Answers.{firstFault}
-use Rattle.refusals.proofs.Answers.{no-fault, no-faults, unlessRefused-accepted, unlessRefused-refused}
+use Rattle.refusals.proofs.Answers.{no-fault, no-faults, unlessRefused-accepted}
 use Rattle.rows.specs.declared.Row.{Row}
 use Rattle.observation.specs.declared.Observation.{Observation}
 use Rattle.observation.specs.Book.{bookStep, smoothedNext}
@@ -124,10 +124,6 @@ addRowRefusal-own o row sound own = rw (sound, own, sound-parts o sound .system-
 pub addRowAnswer-accepted : (o : Observation) (row : Row) → addRowRefusal o row ≡ noRefusal → addRowAnswer o row .observation ≡ withRow o row
 unfolding addRowAnswer
 addRowAnswer-accepted o row e = unlessRefused-accepted _ _ _ e
-
-pub addRowAnswer-refused : (o : Observation) (row : Row) → (addRowRefusal o row ≡ noRefusal → ⊥) → addRowAnswer o row .observation ≡ o
-unfolding addRowAnswer
-addRowAnswer-refused o row e = unlessRefused-refused _ _ _ e
 
 -- a call feeds the books of a sound record, or changes nothing where they do not accept the row
 pub by-acceptance :

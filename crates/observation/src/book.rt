@@ -5,7 +5,7 @@ ghost use Rattle.observation.specs.Book.{smoothedNext, bookStep};
 ghost use Rattle.observation.specs.Smoothing.{smoothedValue, reported};
 ghost use Rattle.observation.specs.Soundness.{mostWindows};
 ghost use Rattle.rows.specs.Rows.{largestValue};
-ghost use Rattle.observation.specs.OrderBook.{reportedBook};
+ghost use Rattle.observation.specs.OrderBook.{bookOf};
 
 // The reported book of one order.
 pub(crate) struct OrderBook {
@@ -36,7 +36,7 @@ fn smoothed_value(new: u64, old: u64) -> u64
 // The first value becomes the smoothed one, a later value is smoothed with the old.
 fn next_smoothed(book: OrderBook, new: u64) -> u64
     requires { ⌜ (new ≤ largestValue) × (book .smoothed ≤ largestValue) ⌝ }
-    ensures { λ r. ⌜ r ≡ smoothedNext reported (reportedBook book) new ⌝ }
+    ensures { λ r. ⌜ r ≡ smoothedNext reported (bookOf book) new ⌝ }
 {
     let old = book.smoothed;
     if book.count == 0 {
@@ -55,7 +55,7 @@ fn greater(a: u64, b: u64) -> u64
 // The book with one value more.
 pub(crate) fn book_step(book: OrderBook, new: u32) -> OrderBook
     requires { ⌜ (book .count < mostWindows) × (book .smoothed ≤ largestValue) × (book .sum ≤ mostWindows * largestValue) ⌝ }
-    ensures { λ r. ⌜ reportedBook r ≡ bookStep reported (reportedBook book) new ⌝ }
+    ensures { λ r. ⌜ bookOf r ≡ bookStep reported (bookOf book) new ⌝ }
 {
     let old_peak = book.peak;
     let count = book.count + 1;

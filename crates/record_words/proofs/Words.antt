@@ -1,9 +1,9 @@
 -- A record and its words determine each other, and the record that is read of some words is the one that they hold, or neither is sound.
 use mathlib.Core.Path.{_≡_, refl, sym, ap, _∙_}
-use mathlib.Core.Bool.{Bool, true, false, true≢false}
+use mathlib.Core.Bool.{Bool, true, false}
 use mathlib.Core.List.{List, [], _∷_, _++_, append-assoc, append-nil}
-use Prim.Native.Nat.{ℕ, min, _+_, _<_, _≤_}
-use native.Mathlib.Nat.{le-of-eq, min-eq-left}
+use Prim.Native.Nat.{ℕ, min, _+_, _<_}
+use native.Mathlib.Nat.{le-of-eq}
 use native.Mathlib.Omega.{arith}
 use lib.ListN.{length, getD}
 use lib.Seq.{take-all}
@@ -14,7 +14,7 @@ use Rattle.rows.specs.Orders.{orderCount}
 use Rattle.rows.specs.Rows.{largestValue}
 use Rattle.rows.proofs.Systems.{system-bounds}
 use Rattle.observation.specs.declared.Observation.{Observation}
-use Rattle.observation.specs.Soundness.{isSound, mostWindows}
+use Rattle.observation.specs.Soundness.{isSound}
 use Rattle.observation.proofs.SoundRecord.{sound-parts}
 use Rattle.record_words.specs.Parts.{wordsFrom, partsFrom, total}
 use Rattle.record_words.specs.Words.{recordParts, recordWords, smoothedPlace, partsOf, ofParts, wordsOf, recordOf, recordRead, Whole, wordsWith}

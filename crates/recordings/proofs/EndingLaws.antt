@@ -1,5 +1,5 @@
 -- The end of a reading: its refusal, what is written, and what the buffer holds then, a law for each way.
-use mathlib.Core.Bool.{true, false, cond, not}
+use mathlib.Core.Bool.{true, cond, not}
 use mathlib.Core.List.{List, _++_}
 use mathlib.Core.Path.{_≡_, refl, sym, ap, _∙_}
 use Prim.Native.Nat.{ℕ, _<_, _≤_}
@@ -29,10 +29,6 @@ module _ (reading : Reading) where
       → finishRefusal reading ≡ reading .refusal
   unfolding finishRefusal
   finishRefusal-refused h f = rw (le-ltb largestRefusal (reading .refusal) h, ne-eqb (reading .refusal) noRefusal f)
-
-  pub finishRefusal-unsound : reading .refusal ≡ noRefusal → isSound (reading .observation) ≡ false → finishRefusal reading ≡ unsoundRecord
-  unfolding finishRefusal
-  finishRefusal-unsound e s = rw (e, s)
 
   pub finishRefusal-no-window : reading .refusal ≡ noRefusal → isSound (reading .observation) ≡ true
       → reading .observation .windows ≡ 0 → finishRefusal reading ≡ noWindow

@@ -11,7 +11,7 @@ use Rattle.groups.specs.declared.Kind.the-variants.{HarmonicGroup}
 use Rattle.rows.specs.declared.Row.{Row}
 use Rattle.observation.specs.declared.Observation.{Observation}
 use Rattle.observation.specs.Soundness.{mostWindows}
-use Rattle.observation.specs.Calls.{addRowRefusal, addRowAnswer, withRow}
+use Rattle.observation.specs.Calls.{addRowAnswer, withRow}
 use Rattle.observation.proofs.SoundRecord.{accepted-call, addRowAnswer-accepted}
 use Rattle.recordings.specs.declared.Reading.{Reading}
 use Rattle.groups.specs.Group.{windowRow}

@@ -1,5 +1,5 @@
 -- The invariant holds after one window more.
-use mathlib.Core.Bool.{true, cond}
+use mathlib.Core.Bool.{cond}
 use mathlib.Core.List.{List, _++_}
 use mathlib.Core.Path.{_≡_, refl, sym, ap, _∙_}
 use Prim.Native.Nat.{ℕ, _+_, _-_, _*_, _<_, _≤_}
@@ -7,18 +7,16 @@ use native.Mathlib.Decide.{ℕ-discrete, decLe}
 use native.Mathlib.Omega.{arith}
 use borrow.Author.Tests.{eq-eqb, ne-eqb, le-leb, lt-leb}
 use lib.Dec.{eqb, leb}
-use lib.IntN.{ℤ}
 use lib.ListN.{length, length-append}
 use Rattle.refusals.specs.Numbers.{noRefusal, recordFull}
-use Rattle.spectrum.specs.Line.{windowLength, linesOf}
+use Rattle.spectrum.specs.Line.{windowLength}
 use Rattle.groups.specs.declared.Kind.{Kind}
 use Rattle.groups.specs.declared.Kind.the-variants.{HarmonicGroup, HarmonicSubgroup}
 use Rattle.groups.proofs.GroupSum.{windowRow-fits, windowRow-system}
 use Rattle.rows.specs.declared.Row.{Row}
 use Rattle.observation.specs.declared.Observation.{Observation}
-use Rattle.observation.specs.Soundness.{isSound, mostWindows}
-use Rattle.observation.specs.Calls.{rowChecks, addRowRefusal, addRowAnswer, withRow}
-use Rattle.rows.specs.Rows.{ValuesFit}
+use Rattle.observation.specs.Soundness.{mostWindows}
+use Rattle.observation.specs.Calls.{addRowRefusal, addRowAnswer, withRow}
 use Rattle.observation.proofs.SoundRecord.{sound-parts, with-row-sound, addRowRefusal-own, addRowAnswer-accepted}
 use Rattle.observation.proofs.RecordAfter.{record-after-tabulate}
 use Rattle.recordings.specs.declared.Reading.{Reading}

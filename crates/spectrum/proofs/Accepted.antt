@@ -2,17 +2,17 @@
 use mathlib.Core.Bool.{Bool, false, not}
 use mathlib.Core.List.{List}
 use mathlib.Core.Path.{_≡_, refl}
-use Prim.Native.Nat.{ℕ, _+_, _-_, _≤_}
+use Prim.Native.Nat.{ℕ, _-_, _≤_}
 use native.Mathlib.Omega.{arith}
 use borrow.Author.Tests.{ltb-false}
-use lib.Dec.{eqb, ltb}
+use lib.Dec.{eqb}
 use lib.IntN.{ℤ}
 use lib.ListN.{length, length-take, length-drop}
 use Rattle.algebra.specs.Lists.{anyOf}
 use Rattle.refusals.specs.Numbers.{noRefusal, shortWindow, wrongLineCount, sampleOutOfRange}
 use Rattle.refusals.proofs.Answers.{no-faults}
-use Rattle.spectrum.specs.Line.{windowLength, lineCount, lineLimit, windowAt}
-use Rattle.spectrum.specs.Spectrum.{outOfRange, windowChecks, spectrumRefusal, linesFromRefusal}
+use Rattle.spectrum.specs.Line.{windowLength, lineCount, windowAt}
+use Rattle.spectrum.specs.Spectrum.{outOfRange, windowChecks, spectrumRefusal}
 use Rattle.spectrum.specs.Prepared.{windowRefusal}
 
 pub record Accepted (recording : List ℤ) (start : ℕ) (wrongCount : Bool) : Type 0 where
@@ -40,11 +40,3 @@ pub accepted :
     Accepted recording start (not (eqb (length buffer) lineCount))
 unfolding spectrumRefusal windowRefusal
 accepted recording start buffer = window-accepted recording start (not (eqb (length buffer) lineCount))
-
-pub linesFrom-accepted :
-    (recording : List ℤ) (start first : ℕ) (buffer : List ℕ) →
-    linesFromRefusal recording start first buffer ≡ noRefusal →
-    Accepted recording start (ltb lineLimit (first + length buffer))
-unfolding linesFromRefusal windowRefusal
-linesFrom-accepted recording start first buffer =
-    window-accepted recording start (ltb lineLimit (first + length buffer))

@@ -1,15 +1,15 @@
--- Lines by their numbers: how many there are, which line stands at a place, how a part joins the next, and that in a window in range none is above 2^59.
+-- Lines by their numbers: how many there are, which line stands at a place, and that in a window in range none is above 2^59.
 use mathlib.Core.Bool.{false}
-use mathlib.Core.List.{List, _++_}
-use mathlib.Core.Path.{_≡_, ap, _∙_, fun-ext}
+use mathlib.Core.List.{List}
+use mathlib.Core.Path.{_≡_, ap, _∙_}
 use Prim.Native.Nat.{ℕ, _+_, _<_, _≤_}
-use native.Mathlib.Nat.{zero-add, add-assoc}
+use native.Mathlib.Nat.{zero-add}
 use borrow.Author.Tests.{le-ltb}
 use lib.Dec.{ltb}
 use lib.IntN.{ℤ}
 use lib.ListN.{length, getD}
-use Rattle.algebra.specs.Lists.{tabulate, anyOf}
-use Rattle.algebra.proofs.Lists.{length-tabulate, getD-tabulate, getD-tabulate-le, tabulate-split, anyOf-false}
+use Rattle.algebra.specs.Lists.{anyOf}
+use Rattle.algebra.proofs.Lists.{length-tabulate, getD-tabulate, getD-tabulate-le, anyOf-false}
 use Rattle.spectrum.specs.Line.{lineCount, lineOf, largestLine, linesFrom, linesOf}
 use Rattle.spectrum.specs.Spectrum.{outOfRange}
 use Rattle.spectrum.proofs.Bounds.{line-le}
@@ -34,14 +34,6 @@ module _ (first count : ℕ) (window : List ℤ) where
     linesFrom-taken =
         anyOf-false (ltb largestLine) (linesFrom first count window) 0
         (λ i h. le-ltb largestLine (getD (linesFrom first count window) i 0) (linesFrom-le i))
-
--- a part of the lines, and the part after it
-pub linesFrom-split :
-    (first m n : ℕ) (window : List ℤ) →
-    linesFrom first (m + n) window ≡ linesFrom first m window ++ linesFrom (first + m) n window
-unfolding linesFrom
-linesFrom-split first m n window =
-    tabulate-split m n (λ i. lineOf window (first + i)) ∙ simp add-assoc
 
 -- ---- the 512 lines
 

@@ -1,7 +1,7 @@
 -- The pulse of document 01, "Worked numbers": sample 0 is 1000, the rest 0, and every line is 4000000. Beside it two samples whose lines differ, so that a line's number is worked too.
 use mathlib.Core.Bool.{false}
 use mathlib.Core.List.{List, [], _∷_}
-use mathlib.Core.Path.{_≡_, refl, ap}
+use mathlib.Core.Path.{_≡_, refl}
 use Prim.Native.Nat.{ℕ, zero, suc, _+_, _*_, _<_}
 use native.Mathlib.Decide.{decLt}
 use native.Mathlib.Nat.{zero-mul}

@@ -1,14 +1,12 @@
 -- How large the parts of a limit are, for every order: a figure over at most the order.
-use mathlib.Core.Path.{_≡_, refl}
 use mathlib.Core.Bool.{Bool, true, false, cond}
-use mathlib.Core.List.{List, [], _∷_}
-use Prim.Native.Nat.{ℕ, _%_, _*_, _^_, max, _≤_, _<_}
+use Prim.Native.Nat.{ℕ, _%_, _*_, _^_, max, _≤_}
 use native.Mathlib.Nat.{mul-le-mul}
 use native.Mathlib.Omega.{arith}
 use lib.Dec.{eqb}
 use mir.Syntax.{w32}
 use mir.Val.{Fits}
-use Rattle.algebra.specs.Fraction.{Fraction, whole, scale, divide}
+use Rattle.algebra.specs.Fraction.{Fraction, whole, times, divide}
 use Rattle.verdict.specs.declared.Question.{Question}
 use Rattle.verdict.specs.Limit.{ownFigures, oddFigure, evenFigure, overOrder, figureIn, limitOf, milliamperes, limitInUnits}
 
@@ -47,11 +45,11 @@ module _ (order : ℕ) where
 
 -- the same of a limit in units, where the order and K have 32 bits
 pub limitInUnits-num-le : (q : Question) → Fits w32 (q .scale) → limitInUnits q .num ≤ 2 ^ 32 * largestFigure
-unfolding limitInUnits scale divide
+unfolding limitInUnits times divide
 limitInUnits-num-le q scale-fits =
     let scale-le : q .scale ≤ 2 ^ 32 = omega arith in
     mul-le-mul scale-le (limitOf-bounds (q .order) .num-le)
 
 pub limitInUnits-den-le : (q : Question) → Fits w32 (q .order) → limitInUnits q .den ≤ milliamperes * 2 ^ 32
-unfolding limitInUnits scale divide
+unfolding limitInUnits times divide
 limitInUnits-den-le q order-fits = let bounds = limitOf-bounds (q .order) in omega arith

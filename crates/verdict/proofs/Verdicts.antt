@@ -5,7 +5,7 @@ use mathlib.Core.Logic.{_⊎_, inl, inr, ⊎-map}
 use Prim.Native.Nat.{ℕ, _≤_, _<_}
 use native.Mathlib.Nat.{mul-one}
 use native.Mathlib.Omega.{arith}
-use lib.Dec.{eqb, leb}
+use lib.Dec.{leb}
 use borrow.Author.Tests.{leb-true, leb-false, eqb-false, not-true, not-false}
 use Rattle.algebra.specs.Fraction.{Fraction, whole, _+ᶠ_, _≤ᶠ_, _<ᶠ_}
 use Rattle.rows.specs.Orders.{orderCount}
@@ -20,7 +20,7 @@ use Rattle.verdict.specs.declared.Question.{Question}
 use Rattle.verdict.specs.declared.Verdict.{Verdict}
 use Rattle.verdict.specs.declared.Verdict.the-variants.{Within, Close, Over}
 use Rattle.verdict.specs.declared.VerdictAnswer.the-variants.{Given}
-use Rattle.verdict.specs.Question.{firstJudged, largestScale, isJudged, isScale}
+use Rattle.verdict.specs.Question.{firstJudged, largestScale}
 use Rattle.verdict.specs.Limit.{limitInUnits, peakLimitInUnits}
 use Rattle.verdict.specs.Tests.{parts, raised, atMost, isWithin, isOver, Touches}
 use Rattle.verdict.specs.Call.{combined, verdictOf, verdictChecks, verdictRefusal, verdictAnswer, orderNumber}

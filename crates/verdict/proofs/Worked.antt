@@ -3,7 +3,7 @@ use mathlib.Core.Path.{_≡_, refl}
 use mathlib.Core.List.{List, [], _∷_, map}
 use Prim.Native.Nat.{ℕ, _-_}
 use lib.ListN.{replicate, set}
-use Rattle.algebra.specs.Fraction.{whole, scale, divide}
+use Rattle.algebra.specs.Fraction.{whole, times, divide}
 use Rattle.algebra.specs.Lists.{anyOf}
 use Rattle.rows.specs.Systems.{isSystem}
 use Rattle.observation.specs.declared.Observation.{Observation}
@@ -121,7 +121,7 @@ verdictCases =
     []
 
 verdicts-worked : map (λ row. row .0) verdictCases ≡ map (λ row. row .1) verdictCases
-unfolding verdictCases only observed oneWindow emptyRecord isSystem anyOf noneAbove allZero isSound whole scale divide limitOf figureIn ownFigures overOrder limitInUnits peakLimitInUnits raised atMost isWithin isOver averageOf peakOf combined verdictOf verdictRefusal verdictAnswer
+unfolding verdictCases only observed oneWindow emptyRecord isSystem anyOf noneAbove allZero isSound whole times divide limitOf figureIn ownFigures overOrder limitInUnits peakLimitInUnits raised atMost isWithin isOver averageOf peakOf combined verdictOf verdictRefusal verdictAnswer
 verdicts-worked = refl
 
 -- ---- the numbers of the cases

@@ -4,7 +4,7 @@ use mathlib.Core.List.{List, [], _∷_}
 use Prim.Native.Nat.{ℕ, _%_, max}
 use native.Mathlib.Omega.{arith}
 use lib.Dec.{eqb}
-use Rattle.algebra.specs.Fraction.{Fraction, whole, scale, divide}
+use Rattle.algebra.specs.Fraction.{Fraction, whole, times, divide}
 use Rattle.verdict.specs.declared.Question.{Question}
 
 -- the orders with a figure of their own, and that figure in milliamperes
@@ -38,8 +38,8 @@ milliamperes = 1000
 
 -- "The limit in units is the mA figure × K / 1000"
 unfoldable pub limitInUnits : Question → Fraction
-limitInUnits q = divide (scale (q .scale) (limitOf (q .order))) milliamperes (omega arith)
+limitInUnits q = divide (times (q .scale) (limitOf (q .order))) milliamperes (omega arith)
 
 -- 150 % of it, as three halves
 unfoldable pub peakLimitInUnits : Question → Fraction
-peakLimitInUnits q = divide (scale 3 (limitInUnits q)) 2 (omega arith)
+peakLimitInUnits q = divide (times 3 (limitInUnits q)) 2 (omega arith)

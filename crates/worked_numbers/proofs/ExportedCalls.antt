@@ -9,7 +9,7 @@ use Rattle.algebra.specs.Largest.{largest}
 use Rattle.algebra.specs.Lists.{tabulate, anyOf, joined}
 use Rattle.algebra.specs.Weighted.{sumOver}
 use Rattle.algebra.specs.Rounding.{nearest}
-use Rattle.algebra.specs.Fraction.{whole, scale, divide}
+use Rattle.algebra.specs.Fraction.{whole, times, divide}
 use Rattle.integers.specs.Root.{rootOf}
 use Rattle.groups.specs.Spans.{spanOf, weightsIn, weightedSum}
 use Rattle.groups.specs.Group.{groupValue, groupRefusal, groupAnswer, groupValues, groupRowRefusal}
@@ -120,7 +120,7 @@ verdicts-worked :
     (verdictFor (recordWith 1 0) 40 (2 ^ 28 + 1), (11, 77)) ∷
     (verdictFor (recordWith 1 0) 40 (2 ^ 28), (0, 1)) ∷
     [])
-unfolding Alike verdictFor recordWith verdictCallRefusal verdictCallExit verdictNumber recordOf ofParts partsFrom wordsFrom tabulate verdictRefusal verdictOf averageOf peakOf combined raised atMost isOver isWithin limitInUnits peakLimitInUnits limitOf figureIn ownFigures overOrder whole scale divide isSound isSystem noneAbove allZero anyOf
+unfolding Alike verdictFor recordWith verdictCallRefusal verdictCallExit verdictNumber recordOf ofParts partsFrom wordsFrom tabulate verdictRefusal verdictOf averageOf peakOf combined raised atMost isOver isWithin limitInUnits peakLimitInUnits limitOf figureIn ownFigures overOrder whole times divide isSound isSystem noneAbove allZero anyOf
 verdicts-worked = refl
 
 -- ---- kifsang_row

@@ -8,7 +8,7 @@ use Prim.Native.Nat.{ℕ, _+_, _-_, _*_, _<_, _≤_, max}
 use native.Mathlib.Omega.{arith}
 use lib.IntN.{ℤ}
 use lib.ListN.{length, getD}
-use Rattle.algebra.specs.Fraction.{Fraction, whole, scale, divide, square, _+ᶠ_}
+use Rattle.algebra.specs.Fraction.{Fraction, whole, times, divide, square, _+ᶠ_}
 use Rattle.spectrum.specs.Line.{windowAt, linesOf}
 use Rattle.spectrum.specs.Spectrum.{spectrumRefusal, spectrumExit}
 use Rattle.groups.specs.declared.Kind.{Kind}
@@ -135,7 +135,7 @@ module _ (kind : Kind) (list : CallList) (k : ℕ) where
   NumberSays number = ((number ≡ 1) × SaysWithin) ⊎ (((number ≡ 2) × SaysClose) ⊎ ((number ≡ 3) × SaysOver))
 
   verdict-number-says : (verdict : Verdict) → Keeps kind list (asked 3 k) verdict → NumberSays (verdictNumber verdict)
-  unfolding Keeps verdictNumber limitInUnits peakLimitInUnits limitOf figureIn ownFigures overOrder whole scale divide _+ᶠ_
+  unfolding Keeps verdictNumber limitInUnits peakLimitInUnits limitOf figureIn ownFigures overOrder whole times divide _+ᶠ_
   verdict-number-says (Within h) keeps = inl (refl, λ l. (omega (arith, keeps l .0), omega (arith, keeps l .1)))
   verdict-number-says (Close h) keeps =
       let touches : SaysClose =

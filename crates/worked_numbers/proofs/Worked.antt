@@ -3,7 +3,7 @@ use mathlib.Core.Path.{_≡_, refl, fun-ext, _∙_}
 use mathlib.Core.Bool.{true}
 use Prim.Native.Nat.{ℕ, _<_}
 use lib.ListN.{getD}
-use Rattle.algebra.specs.Fraction.{whole, scale, divide}
+use Rattle.algebra.specs.Fraction.{whole, times, divide}
 use Rattle.algebra.specs.Largest.{largest}
 use Rattle.algebra.specs.Lists.{tabulate, anyOf}
 use Rattle.algebra.specs.Rounding.{nearest}
@@ -37,7 +37,7 @@ use Rattle.columns.specs.Column.{areDigits, isWhole, placeValue, wholeNumber, n
 use Rattle.columns.specs.Calls.{columnReadAnswer}
 use Rattle.accuracy.specs.Distance.{InRange}
 use Rattle.accuracy.proofs.GroupDistance.{lines-accepted, lines-of-group}
-use Rattle.worked_numbers.specs.Cases.{pulse, rowOf, recordOf, cases, Holds}
+use Rattle.worked_numbers.specs.Cases.{pulse, rowOf, afterRows, cases, Holds}
 
 -- every line of the pulse
 line-of-pulse : (k : ℕ) → lineOf pulse k ≡ 4000000
@@ -63,7 +63,7 @@ pulse-group kind system value known alike order known-order =
     )
 
 pub worked-numbers : Everywhere Holds cases
-unfolding cases Holds tableEntry nearest quarterSine denominator added takenAway term factorial isSystem rootOf largest spanOf weightsIn weightedSum sumOver tabulate anyOf rowOf recordOf recordAfter emptyRecord freshRefusal freshAnswer bookAt nextBook withRow rowChecks addRowRefusal addRowAnswer noneAbove allZero isSound smoothedNext bookStep smoothedValue ownFigures figureIn limitOf overOrder limitInUnits peakLimitInUnits raised atMost isWithin isOver averageOf peakOf combined verdictOf verdictRefusal verdictAnswer whole scale divide bytesOf areDigits isWhole placeValue wholeNumber negativeNumber signedNumber afterBlanks columnNumber columnReadAnswer
+unfolding cases Holds tableEntry nearest quarterSine denominator added takenAway term factorial isSystem rootOf largest spanOf weightsIn weightedSum sumOver tabulate anyOf rowOf afterRows recordAfter emptyRecord freshRefusal freshAnswer bookAt nextBook withRow rowChecks addRowRefusal addRowAnswer noneAbove allZero isSound smoothedNext bookStep smoothedValue ownFigures figureIn limitOf overOrder limitInUnits peakLimitInUnits raised atMost isWithin isOver averageOf peakOf combined verdictOf verdictRefusal verdictAnswer whole times divide bytesOf areDigits isWhole placeValue wholeNumber negativeNumber signedNumber afterBlanks columnNumber columnReadAnswer
 worked-numbers = (
   refl,
   (

@@ -35,8 +35,8 @@ unfoldable pub rowOf : ℕ → Row
 rowOf value = record { system = 10; values = replicate orderCount value }
 
 -- the record after rows with these values
-unfoldable pub recordOf : List Row → Observation
-recordOf rows = recordAfter (freshAnswer 10 .observation) rows
+unfoldable pub afterRows : List Row → Observation
+afterRows rows = recordAfter (freshAnswer 10 .observation) rows
 
 pub data Case : Type 0 where
   -- an entry of the table, and its number
@@ -60,8 +60,8 @@ Holds (everyLine number) = (k : ℕ) → k < lineCount → getD (linesOf pulse) 
 Holds (group kind system value) =
     (order : ℕ) → isOrder order ≡ true → groupAnswer kind system order (linesOf pulse) ≡ answer noRefusal value
 Holds (smoothed first second value) =
-    recordOf (rowOf first ∷ rowOf second ∷ []) .smoothed ≡ replicate orderCount value
-Holds (verdict value given) = verdictAnswer (recordOf (rowOf value ∷ [])) (asked 3 1000000) ≡ Given given
+    afterRows (rowOf first ∷ rowOf second ∷ []) .smoothed ≡ replicate orderCount value
+Holds (verdict value given) = verdictAnswer (afterRows (rowOf value ∷ [])) (asked 3 1000000) ≡ Given given
 Holds (column text number) = columnReadAnswer (bytesOf text) ≡ record { refusal = noRefusal; value = number }
 Holds (noColumn text) = columnReadAnswer (bytesOf text) ≡ record { refusal = notAColumn; value = pos 0 }
 

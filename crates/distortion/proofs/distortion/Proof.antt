@@ -8,7 +8,7 @@ use lib.ListN.{length, getD, drop, length-drop}
 use lib.Seq.{take-all}
 use mir.Syntax.{w32}
 use mir.Val.{Fits}
-use Rattle.limbs.specs.Wide.{limbsOf}
+use Rattle.limbs.specs.Limbs.{limbsOf}
 use Rattle.wide_numbers.specs.WideNumbers.{wideLimbs}
 use Rattle.rows.specs.Orders.{orderCount}
 use Rattle.distortion.specs.Distortion.{sumOfSquares, distortionOf, distortionAnswer}

@@ -1,8 +1,7 @@
 -- `columns::writing::write_column` meets its contract.
-use mathlib.Core.Path.{_∙_}
 use mir.Facts.{toZ-ofZ}
 use borrow.Author.Needs.{needs}
-use borrow.Author.Tests.{eq-eqb, ne-eqb}
+use borrow.Author.Tests.{ne-eqb}
 use Rattle.columns.specs.Calls.{columnWidth}
 use Rattle.columns.proofs.writing.write_column.Statement.{statement}
 use Rattle.columns.proofs.writing.write_column.Tie as tie

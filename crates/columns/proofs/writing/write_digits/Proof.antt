@@ -1,7 +1,5 @@
 -- `columns::writing::write_digits` meets its contract. The loop's invariant: the digits from `at` on, after those of the rest, are the number's. The measure is the rest.
 use native.Mathlib.Omega.{arith}
-use borrow.Author.Needs.{needs}
-use lib.ListN.{length}
 use Rattle.columns.proofs.Writings.{atEnd-length, DigitsWritten, digits-none, digits-room, digits-more, digits-last}
 use Rattle.columns.proofs.writing.write_digits.Statement.{statement}
 use Rattle.columns.proofs.writing.write_digits.Tie as tie

@@ -1,5 +1,5 @@
 -- `exported_records::verdict_call::hand_over_verdict` meets its contract, case by case.
-use mathlib.Core.Path.{refl, sym, ap, _∙_}
+use mathlib.Core.Path.{refl}
 use borrow.Author.Needs.{needs}
 use Rattle.verdict.specs.Call.{refusalNumber}
 use Rattle.exported_records.specs.VerdictCall.{numberLeft}

@@ -4,7 +4,7 @@ use native.Mathlib.Omega.{arith}
 use borrow.Author.Needs.{needs}
 use Rattle.observation.specs.Book.{bookStep}
 use Rattle.rows.specs.Rows.{largestValue}
-use Rattle.observation.specs.OrderBook.{reportedBook}
+use Rattle.observation.specs.OrderBook.{bookOf}
 use Rattle.observation.proofs.Smoothed.{smoothed-next-le}
 use Rattle.observation.proofs.book.book_step.Statement.{statement}
 use Rattle.observation.proofs.book.book_step.Tie as tie
@@ -14,7 +14,7 @@ add-sum c =
     let a = c .before .before .before .args in
     let next = c .before .next-smoothed in
     let small : next .result ≤ largestValue =
-    rw (next .ensures) (smoothed-next-le largestValue (reportedBook (a .book)) (a .new) (omega arith) (search needs)) in
+    rw (next .ensures) (smoothed-next-le largestValue (bookOf (a .book)) (a .new) (omega arith) (search needs)) in
     omega arith
 
 returns : tie.Need-returns

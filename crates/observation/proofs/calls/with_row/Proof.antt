@@ -13,7 +13,7 @@ use Rattle.observation.specs.declared.Observation.{Observation}
 use Rattle.observation.specs.Book.{Book}
 use Rattle.observation.specs.Smoothing.{reported}
 use Rattle.observation.specs.Calls.{bookAt, nextBook, withRow}
-use Rattle.observation.specs.OrderBook.{reportedBook}
+use Rattle.observation.specs.OrderBook.{bookOf}
 use Rattle.observation.proofs.SoundRecord.{sound-parts, AcceptedCall, accepted-call}
 use Rattle.observation.proofs.calls.with_row.Statement.{statement}
 use Rattle.observation.proofs.calls.with_row.Tie as tie
@@ -72,7 +72,7 @@ loop-again c =
     let inv = at-loop .loop .inv in
     let i = at-loop .loop .i in
     let inside : i < orderCount = omega arith in
-    let step : reportedBook (c .book-step .result) ≡ nextBook (Handed (at-loop .before)) (RowAdded (at-loop .before)) i =
+    let step : bookOf (c .book-step .result) ≡ nextBook (Handed (at-loop .before)) (RowAdded (at-loop .before)) i =
     c .book-step .ensures ∙
     rw (filled-next i _ _ _ (inv .1) 0, filled-next i _ _ _ (inv .2) 0, filled-next i _ _ _ (inv .3) 0) in (
       omega arith,

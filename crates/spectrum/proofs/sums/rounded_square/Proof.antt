@@ -1,8 +1,7 @@
 -- `spectrum::sums::rounded_square` meets its contract. Half of 2^29 is added before the shift, which rounds down; the square is not below 0, and at most 2^58.
 use mathlib.Core.Path.{_≡_, ap, _∙_}
-use Prim.Native.Nat.{ℕ, _^_, _<_}
+use Prim.Native.Nat.{_^_, _<_}
 use native.Mathlib.Omega.{arith}
-use lib.Dec.{lit<}
 use lib.IntN.{ℤ, pos, natAbs, _+ℤ_, _*ℤ_}
 use lib.Signed.{shrZ, mag-shr}
 use mir.Syntax.{w64}

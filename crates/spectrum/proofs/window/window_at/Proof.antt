@@ -1,5 +1,5 @@
 -- `spectrum::window::window_at` meets its contract: ends that are cut to the recording's length take the same samples.
-use mathlib.Core.Path.{_≡_, _∙_}
+use mathlib.Core.Path.{_≡_}
 use Prim.Native.Nat.{ℕ, _+_, _-_, min}
 use native.Mathlib.Omega.{arith}
 use borrow.Author.Needs.{needs}

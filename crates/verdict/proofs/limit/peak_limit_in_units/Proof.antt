@@ -3,7 +3,7 @@ use native.Mathlib.Omega.{arith}
 use borrow.Author.Needs.{needs}
 use mir.Syntax.{w32}
 use mir.Val.{Fits}
-use Rattle.algebra.specs.Fraction.{scale, divide}
+use Rattle.algebra.specs.Fraction.{times, divide}
 use Rattle.verdict.specs.Limit.{peakLimitInUnits}
 use Rattle.verdict.proofs.Limits.{limitInUnits-num-le, limitInUnits-den-le}
 use Rattle.verdict.proofs.limit.peak_limit_in_units.Statement.{statement}
@@ -22,6 +22,6 @@ mul-t4 c =
     rw (c .before .before .limit-in-units .ensures) (omega (arith, limitInUnits-den-le q fits))
 
 pub peak-limit-in-units-spec : {M : Type 1} → statement M
-unfolding peakLimitInUnits scale divide
+unfolding peakLimitInUnits times divide
 peak-limit-in-units-spec =
     tie.close (tie.spec (λ c κs. search needs) mul-t3 mul-t4 (λ c. rw (c .before .before .limit-in-units .ensures)))
