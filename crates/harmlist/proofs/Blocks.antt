@@ -15,11 +15,11 @@ use Rattle.observation.specs.Soundness.{mostWindows}
 use Rattle.recordings.specs.declared.Reading.{Reading}
 use Rattle.recordings.specs.TextLines.{textLineBytes}
 use Rattle.recordings.specs.Blocks.{windowBytes, blockOf}
-use Rattle.recordings.specs.Ending.{outputOf}
-use Rattle.recordings.specs.Follows.{readingAfter, WholeButLast, CutInBlocks}
+use Rattle.harmlist_output.specs.Ending.{outputOf}
+use Rattle.harmlist_output.specs.Follows.{readingAfter, WholeButLast, CutInBlocks}
 use Rattle.algebra.specs.Lists.{joined}
 use Rattle.recordings.proofs.WindowAdded.{blockOf-added}
-use Rattle.recordings.proofs.Follows.{follows-definition, readingAfter-append}
+use Rattle.harmlist_output.proofs.Follows.{follows-definition, readingAfter-append}
 use Rattle.harmlist.specs.declared.Input.{Input}
 use Rattle.harmlist.specs.Input.{BytesRead, LineRead, BlockRead, Ends, BlocksRead, TextRead}
 

@@ -11,8 +11,8 @@ use Rattle.recordings.specs.declared.Reading.{Reading}
 use Rattle.recordings.specs.TextLines.{textLineBytes}
 use Rattle.recordings.specs.Output.{harmlistOutput}
 use Rattle.recordings.specs.Blocks.{windowBytes, beginOf, blockOf}
-use Rattle.recordings.specs.Ending.{outputOf}
-use Rattle.recordings.specs.Follows.{WholeButLast, readingAfter}
+use Rattle.harmlist_output.specs.Ending.{outputOf}
+use Rattle.harmlist_output.specs.Follows.{WholeButLast, readingAfter}
 use Rattle.harmlist.specs.declared.Input.{Input}
 
 -- so many bytes were read, or fewer, and what they are read as

@@ -7,9 +7,10 @@
 // Proved: it stops reading only where the reading is refused, where fewer bytes came than were asked
 // for, or where a read is taken for failed; where none is, it hands `finish` a reading that gives what
 // document 01 says of some bytes, those that came (specs/Input.antt). What comes after a refusal does
-// not matter (recordings/specs/Follows.antt). Assumed of `read` is only how many bytes it answers.
+// not matter (harmlist_output/specs/Follows.antt). Assumed of `read` is only how many bytes it answers.
 // Tested: that the bytes are the input's, that fewer come at its end alone, that a read which fails is
 // taken for failed, and that the output is written (tests/run, tests/edges).
+use harmlist_output::finish;
 use libc::EAGAIN;
 use libc::EINTR;
 use libc::STDERR_FILENO;
@@ -20,7 +21,6 @@ use recordings::LINE_BYTES;
 use recordings::Reading;
 use recordings::WINDOW_BYTES;
 use recordings::begin;
-use recordings::finish;
 use recordings::take_block;
 use refusals::NO_REFUSAL;
 ghost use mathlib.Core.Bool.{false};

@@ -1,4 +1,4 @@
--- The proofs of the functions, and the theorem that an input read in blocks gives what harmlist writes for it.
+-- What the proofs of the functions use, and what holds of a reading after each window of an input.
 pub mod FirstOf
 pub mod NumberOnLine
 pub mod Samples
@@ -8,9 +8,6 @@ pub mod FirstLine
 pub mod WindowLines
 pub mod TextLines
 pub mod WindowRefusals
-pub mod Output
-pub mod EndingLaws
 pub mod Holds
 pub mod WindowHolds
-pub mod Follows
 pub mod WorkedInputs

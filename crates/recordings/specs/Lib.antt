@@ -3,6 +3,4 @@ pub mod TextLines
 pub mod InputRefusal
 pub mod Output
 pub mod Blocks
-pub mod Ending
 pub mod Steps
-pub mod Follows

@@ -1,16 +1,13 @@
-// The text of a recording, read a window at a time, and the listing that is written for it.
+// The text of a recording, read a window at a time.
 // A reading goes in by value and comes back by value. The caller lends the bytes of the input: the
-// first line to `begin`, then the lines of one window at a time to `take_block`, and `finish`
-// writes what harmlist writes. That this is document 01's output of the whole input is stated in
-// specs/Follows.antt and proved in proofs/.
+// first line to `begin`, then the lines of one window at a time to `take_block`. What is written at the
+// end of a reading, and that this is document 01's output of the whole input, is harmlist_output's.
 mod blocks;
-mod ending;
 mod text_lines;
 
 pub use blocks::begin;
 pub use blocks::take_block;
 use columns::COLUMN_WIDTH;
-pub use ending::finish;
 use observation::Observation;
 use rows::ORDER_COUNT;
 use spectrum::WINDOW_LENGTH;

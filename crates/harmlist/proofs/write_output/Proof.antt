@@ -4,7 +4,7 @@ use Prim.Native.Nat.{_≤_}
 use borrow.Author.Needs.{needs}
 use lib.ListN.{length}
 use lib.Seq.{length-take-le}
-use Rattle.recordings.proofs.EndingLaws.{written-count-le}
+use Rattle.harmlist_output.proofs.EndingLaws.{written-count-le}
 use Rattle.harmlist.proofs.write_output.Statement.{statement}
 use Rattle.harmlist.proofs.write_output.Tie as tie
 

@@ -16,9 +16,9 @@ use Rattle.listing.specs.Listing.{listingText, listingRoom, listingRefusal, lis
 use Rattle.listing.specs.RefusalLine.{refusalLineLength, refusalLine}
 use Rattle.listing.proofs.RefusalLine.{refusalLine-length}
 use Rattle.observation.specs.Soundness.{isSound}
 use Rattle.recordings.specs.declared.Reading.{Reading}
-use Rattle.recordings.specs.Ending.{finishRefusal, outputOf, outputExit}
+use Rattle.harmlist_output.specs.Ending.{finishRefusal, outputOf, outputExit}
 use Rattle.recordings.proofs.FirstOf.{no-earlier, cond-le}
 
 module _ (reading : Reading) where
   pub finishRefusal-unknown : largestRefusal < reading .refusal → finishRefusal reading ≡ unsoundRecord

@@ -1,4 +1,4 @@
--- `recordings::ending::finish` meets its contract, by a law for each way.
+-- `harmlist_output::finish` meets its contract, by a law for each way.
 use mathlib.Core.Path.{sym, ap, _∙_}
 use native.Mathlib.Omega.{arith}
 use borrow.Author.Needs.{needs}
@@ -6,9 +6,9 @@ use lib.ListN.{take}
 use lib.Seq.{length-take-le}
 use Rattle.listing.specs.RefusalLine.{refusalLineLength, refusalLineExit}
 use Rattle.listing.proofs.RefusalLine.{refusalLineExit-accepted}
-use Rattle.recordings.proofs.EndingLaws.{finishRefusal-le, finishRefusal-sound, written-not, written-refusal, answer-listing, written-listing}
-use Rattle.recordings.proofs.ending.finish.Statement.{statement}
-use Rattle.recordings.proofs.ending.finish.Tie as tie
+use Rattle.harmlist_output.proofs.EndingLaws.{finishRefusal-le, finishRefusal-sound, written-not, written-refusal, answer-listing, written-listing}
+use Rattle.harmlist_output.proofs.finish.Statement.{statement}
+use Rattle.harmlist_output.proofs.finish.Tie as tie
 
 returns : tie.Need-returns
 returns c =

@@ -1,8 +1,8 @@
--- `recordings::ending::finish_refusal` meets its contract.
+-- `harmlist_output::finish_refusal` meets its contract.
 use borrow.Author.Needs.{needs}
-use Rattle.recordings.specs.Ending.{finishRefusal}
-use Rattle.recordings.proofs.ending.finish_refusal.Statement.{statement}
-use Rattle.recordings.proofs.ending.finish_refusal.Tie as tie
+use Rattle.harmlist_output.specs.Ending.{finishRefusal}
+use Rattle.harmlist_output.proofs.finish_refusal.Statement.{statement}
+use Rattle.harmlist_output.proofs.finish_refusal.Tie as tie
 
 returns : tie.Need-returns
 unfolding finishRefusal

@@ -1,4 +1,4 @@
--- `recordings::ending::narrowed` meets its contract. The loop's invariant: the first i values are those of the argument.
+-- `harmlist_output::narrowed` meets its contract. The loop's invariant: the first i values are those of the argument.
 -- The measure is the count of values that are left.
 use mathlib.Core.Path.{_≡_, refl, _∙_}
 use Prim.Native.Nat.{_-_, _≤_, _<_}
@@ -11,8 +11,8 @@ use Rattle.rows.specs.Rows.{largestValue}
 use Rattle.algebra.proofs.Filling.{Filled, filled-more, filled-whole}
 use Rattle.observation.proofs.NoneAbove.{getD-le-of-none-above}
 use Rattle.algebra.proofs.Lists.{tabulate-whole}
-use Rattle.recordings.proofs.ending.narrowed.Statement.{statement}
-use Rattle.recordings.proofs.ending.narrowed.Tie as tie
+use Rattle.harmlist_output.proofs.narrowed.Statement.{statement}
+use Rattle.harmlist_output.proofs.narrowed.Tie as tie
 
 abbrev Inv-loop : tie.InvT-loop
 Inv-loop values narrow₀ i₀ narrow i = (i ≤ orderCount) × Filled i (λ j. getD values j 0) narrow₀ narrow

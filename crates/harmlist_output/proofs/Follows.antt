@@ -11,23 +11,23 @@ use Rattle.listing.specs.Listing.{listingText}
 use Rattle.listing.specs.RefusalLine.{refusalLine}
 use Rattle.columns.specs.Calls.{columnWidth}
 use Rattle.spectrum.specs.Line.{windowLength}
 use Rattle.recordings.specs.declared.Reading.{Reading}
 use Rattle.recordings.specs.TextLines.{textLineBytes, textLineCount}
 use Rattle.recordings.specs.InputRefusal.{isNone, textLineRefusal, firstOf, refusalBefore, endRefusal}
 use Rattle.recordings.specs.Output.{windowCount, listingFor, harmlistOutput}
 use Rattle.recordings.specs.Blocks.{windowBytes, beginOf, textLinesRefusal, blockLines, refusedWith, blockOf}
-use Rattle.recordings.specs.Ending.{outputOf}
-use Rattle.recordings.specs.Follows.{readingAfter, WholeButLast, FollowsDefinition, RefusedStays, StopsAtRefusal}
+use Rattle.harmlist_output.specs.Ending.{outputOf}
+use Rattle.harmlist_output.specs.Follows.{readingAfter, WholeButLast, FollowsDefinition, RefusedStays, StopsAtRefusal}
 use Rattle.algebra.specs.Lists.{joined}
 use Rattle.recordings.proofs.NumberOnLine.{textLineNumber-cut}
 use Rattle.recordings.proofs.FirstLine.{textLineRefusal-first}
 use Rattle.recordings.proofs.BlockLaws.{blockLines-short, blockOf-refused, blockOf-empty, blockOf-text-line, blockOf-short}
 use Rattle.recordings.proofs.TextLines.{linesTo}
 use Rattle.recordings.proofs.WindowRefusals.{refusalBefore-stays, refusalBefore-short, short-lines, textLinesRefusal-le, refusalBefore-le}
-use Rattle.recordings.proofs.Output.{harmlistOutput-text-line, harmlistOutput-at-end, harmlistOutput-listing, endRefusal-no-window, endRefusal-windows, endRefusal-short}
-use Rattle.recordings.proofs.EndingLaws.{finishRefusal-refused, finishRefusal-no-window, finishRefusal-accepted, outputOf-refused, outputOf-accepted}
+use Rattle.harmlist_output.proofs.Output.{harmlistOutput-text-line, harmlistOutput-at-end, harmlistOutput-listing, endRefusal-no-window, endRefusal-windows, endRefusal-short}
+use Rattle.harmlist_output.proofs.EndingLaws.{finishRefusal-refused, finishRefusal-no-window, finishRefusal-accepted, outputOf-refused, outputOf-accepted}
 use Rattle.recordings.proofs.Holds.{GoesOn, Holds, begins}
 use Rattle.recordings.proofs.WindowHolds.{steps}
 
 -- a reading that a line ended, and a text with that line's refusal
 refused-output : (reading : Reading) (text : List ℕ) → reading .refusal ≤ largestRefusal

@@ -1,10 +1,12 @@
-// The end of a reading: the listing, or only the line for a refusal.
-use crate::Reading;
+// What harmlist writes at the end of a reading: the listing, or only the line for a refusal. That it is
+// document 01's output of the whole input that was read is stated in specs/Follows.antt and proved in
+// proofs/.
 use listing::LISTING_ROOM;
 use listing::REFUSAL_LINE_LENGTH;
 use listing::fill_listing;
 use listing::fill_refusal_line;
 use observation::is_sound;
+use recordings::Reading;
 use refusals::Answer;
 use refusals::LARGEST_REFUSAL;
 use refusals::NO_REFUSAL;
@@ -20,7 +22,7 @@ ghost use Rattle.refusals.specs.Answers.{answer};
 ghost use Rattle.listing.specs.Listing.{listingText, listingRefusal, listingExit};
 ghost use Rattle.observation.specs.Soundness.{noneAbove, isSound};
 ghost use Rattle.rows.specs.Rows.{largestValue};
-ghost use Rattle.recordings.specs.Ending.{finishRefusal, outputOf, outputExit};
+ghost use Rattle.harmlist_output.specs.Ending.{finishRefusal, outputOf, outputExit};
 
 // The refusal at the end: that of the reading, 7 for a reading that no call gave, 10 where no
 // window came.

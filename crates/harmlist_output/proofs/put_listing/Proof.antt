@@ -1,10 +1,10 @@
--- `recordings::ending::put_listing` meets its contract: a sound record's smoothed values fit 32 bits.
+-- `harmlist_output::put_listing` meets its contract: a sound record's smoothed values fit 32 bits.
 use borrow.Author.Needs.{needs}
 use Rattle.rows.specs.Rows.{largestValue}
 use Rattle.observation.proofs.SoundRecord.{sound-parts}
 use Rattle.observation.proofs.NoneAbove.{none-above-of-getD-le}
-use Rattle.recordings.proofs.ending.put_listing.Statement.{statement}
-use Rattle.recordings.proofs.ending.put_listing.Tie as tie
+use Rattle.harmlist_output.proofs.put_listing.Statement.{statement}
+use Rattle.harmlist_output.proofs.put_listing.Tie as tie
 
 narrowed-requires : tie.Need-narrowed-requires
 narrowed-requires c κs =

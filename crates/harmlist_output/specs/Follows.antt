@@ -6,11 +6,11 @@ use Prim.Native.Nat.{ℕ, _≤_, _<_}
 use lib.ListN.{length}
 use Rattle.algebra.specs.Lists.{joined}
 use Rattle.refusals.specs.Numbers.{noRefusal}
 use Rattle.recordings.specs.declared.Reading.{Reading}
 use Rattle.recordings.specs.TextLines.{textLineBytes}
 use Rattle.recordings.specs.Output.{harmlistOutput}
 use Rattle.recordings.specs.Blocks.{windowBytes, beginOf, blockOf}
-use Rattle.recordings.specs.Ending.{outputOf}
+use Rattle.harmlist_output.specs.Ending.{outputOf}
 
 -- the reading after some blocks
 unfoldable pub readingAfter : Reading → List (List ℕ) → Reading
