@@ -99,7 +99,8 @@ module _ (kind : Kind) (system : ℕ) (recording : List ℤ) (start windows : �
     pub worked : WorkedList kind observedList
     pub holds : ListHolds kind observedList
 
--- Demand 3: the distance of every group value; for every kind and both systems the claim about every list of calls whose accepted rows are worked from samples; and so of every observation that is not refused.
+-- Demand 3: the distance of every group value; for every kind and both systems the claim about every list of
+-- calls whose accepted rows are worked from samples; and so of every observation that is not refused.
 pub record Demand3Holds : Type 0 where
   pub groups : GroupsNear
   pub lists : (kind : Kind) (list : CallList) → isSystem (list .system) ≡ true → WorkedList kind list → ListHolds kind list

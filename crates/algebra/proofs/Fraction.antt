@@ -113,7 +113,10 @@ near-map : {side : Side} (f : Fraction → Fraction) {m n : ℕ} → ((p q : Fra
 near-map {side = lower} f law {p} {q} h = record { within = law q p (h .within) }
 near-map {side = upper} f law {p} {q} h = record { within = law p q (h .within) }
 
-near-join : {side : Side} (f : Fraction → Fraction → Fraction) {m n k : ℕ} → ((p q r s : Fraction) → p ≤ᶠ q +ᶠ whole m → r ≤ᶠ s +ᶠ whole n → f p r ≤ᶠ f q s +ᶠ whole k) → {p q r s : Fraction} → Near side p q m → Near side r s n → Near side (f p r) (f q s) k
+near-join :
+    {side : Side} (f : Fraction → Fraction → Fraction) {m n k : ℕ} →
+    ((p q r s : Fraction) → p ≤ᶠ q +ᶠ whole m → r ≤ᶠ s +ᶠ whole n → f p r ≤ᶠ f q s +ᶠ whole k) →
+    {p q r s : Fraction} → Near side p q m → Near side r s n → Near side (f p r) (f q s) k
 near-join {side = lower} f law {p} {q} {r} {s} h k = record { within = law q p s r (h .within) (k .within) }
 near-join {side = upper} f law {p} {q} {r} {s} h k = record { within = law p q r s (h .within) (k .within) }
 
@@ -161,7 +164,10 @@ near-nearest {side = upper} n d {q} positive l h =
     record { within = omega (arith, mul-le-mul-right (q .den) l, mul-le-mul-right (q .den) (rounded .low)) }
 
 -- the rounded mean of two whole numbers near the exact mean of two fractions
-pub near-mix : {side : Side} (a b new old : ℕ) {p q : Fraction} {k m : ℕ} (positive : 0 < a + b) → 2 * (a * k + b * m) + (a + b) ≤ 2 * ((a + b) * m) → Near side (whole new) p k → Near side (whole old) q m → Near side (whole (nearest (a * new + b * old) (a + b))) (mix a b positive p q) m
+pub near-mix :
+    {side : Side} (a b new old : ℕ) {p q : Fraction} {k m : ℕ} (positive : 0 < a + b) →
+    2 * (a * k + b * m) + (a + b) ≤ 2 * ((a + b) * m) → Near side (whole new) p k → Near side (whole old) q m →
+    Near side (whole (nearest (a * new + b * old) (a + b))) (mix a b positive p q) m
 unfolding mix
 near-mix a b new old positive l h k =
     near-nearest (a * new + b * old) (a + b) positive l

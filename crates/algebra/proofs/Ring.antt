@@ -152,7 +152,9 @@ module _ (zs : List ℤ) where
   addTerm-value c m none = refl
   addTerm-value c m (term d n t) = go (order m n) (λ e. ap monomial (order-eq m n e)) (addTerm-value c m t)
     where
-      go : (o : Ordering) → (T (isEq o) → monomial m ≡ monomial n) → sum (addTerm c m t) ≡ c *ℤ monomial m +ℤ sum t → sum (placeTerm o c m d n t (term d n (addTerm c m t))) ≡ c *ℤ monomial m +ℤ (d *ℤ monomial n +ℤ sum t)
+      go :
+          (o : Ordering) → (T (isEq o) → monomial m ≡ monomial n) → sum (addTerm c m t) ≡ c *ℤ monomial m +ℤ sum t →
+          sum (placeTerm o c m d n t (term d n (addTerm c m t))) ≡ c *ℤ monomial m +ℤ (d *ℤ monomial n +ℤ sum t)
       go Ordering·lt e h = refl
       go Ordering·eq e h = ap (λ x. x +ℤ sum t) (+ℤ-*ℤ c d (monomial m) ∙ ap (λ x. c *ℤ monomial m +ℤ d *ℤ x) (e tt)) ∙ +ℤ-assoc (c *ℤ monomial m) (d *ℤ monomial n) (sum t)
       go Ordering·gt e h = ap (λ x. d *ℤ monomial n +ℤ x) h ∙ +ℤ-left-comm (d *ℤ monomial n) (c *ℤ monomial m) (sum t)

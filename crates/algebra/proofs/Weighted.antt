@@ -45,14 +45,19 @@ triangle-step : (c r t A B Y : ℕ) → Y * Y ≤ A * B → A < c * (r * r) → 
 triangle-step c r t A B Y h ha hb = omega (arith, le-of-square-le Y (c * (r * t)) (le-trans h (le-trans (mul-le-mul (le-of-lt ha) hb) (omega arith))))
 
 module _ {A : Type 0} (w : A → ℕ) (s a b : A → ℤ) where
-  squares-le : ((p : A) → natAbs (s p) ≤ natAbs (a p) + natAbs (b p)) → (places : List A) → weightedSquares w s places ≤ weightedSquares w a places + 2 * absoluteProducts w a b places + weightedSquares w b places
+  squares-le :
+      ((p : A) → natAbs (s p) ≤ natAbs (a p) + natAbs (b p)) → (places : List A) →
+      weightedSquares w s places ≤ weightedSquares w a places + 2 * absoluteProducts w a b places + weightedSquares w b places
   unfolding absoluteProducts sumOver
   squares-le h [] = omega arith
   squares-le h (p ∷ places) = omega (arith, mul-le-mul-left (w p) (mul-le-mul (h p) (h p)), squares-le h places)
 
   -- A vector s of at most |a| + |b| at each place: if Σ w a² is below c · r² and Σ w b² at most c · t², then Σ w s² is below
   -- c · (r + t)². This is the triangle inequality of the roots, which r and t bound.
-  pub triangle-lt : ((p : A) → natAbs (s p) ≤ natAbs (a p) + natAbs (b p)) → (places : List A) (c r t : ℕ) → weightedSquares w a places < c * (r * r) → weightedSquares w b places ≤ c * (t * t) → weightedSquares w s places < c * ((r + t) * (r + t))
+  pub triangle-lt :
+      ((p : A) → natAbs (s p) ≤ natAbs (a p) + natAbs (b p)) → (places : List A) (c r t : ℕ) →
+      weightedSquares w a places < c * (r * r) → weightedSquares w b places ≤ c * (t * t) →
+      weightedSquares w s places < c * ((r + t) * (r + t))
   triangle-lt h places c r t ha hb = lt-of-le-of-lt (squares-le h places) (triangle-step c r t (weightedSquares w a places) (weightedSquares w b places) (absoluteProducts w a b places) (cauchy-schwarz w a b places) ha hb)
 
 -- ---- laws of the sums over a list

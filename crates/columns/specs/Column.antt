@@ -1,4 +1,5 @@
--- A number column of any width (document 01, "Columns and the listing"): "right-justified, one digit or more, blanks before; a minus stands directly before the digits; no leading zero but the single 0, and no −0".
+-- A number column of any width (document 01, "Columns and the listing"): "right-justified, one digit or more, blanks
+-- before; a minus stands directly before the digits; no leading zero but the single 0, and no −0".
 -- `columnText` is the column of a number, and `columnNumber` reads one; that they agree is shown in proofs/Column.antt.
 use mathlib.Core.Bool.{Bool, true, false, cond, not, _&&_}
 use mathlib.Core.List.{List, [], _∷_, _++_}

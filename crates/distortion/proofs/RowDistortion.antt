@@ -1,4 +1,5 @@
--- Laws of group distortion: the sum of squares by its places and its bound, that the distortion is the largest whole t of document 01 and is below 2^45, and that the largest t with t² × r² ≤ x is the root of x divided by r.
+-- Laws of group distortion: the sum of squares by its places and its bound, that the distortion is the largest whole t of
+-- document 01 and is below 2^45, and that the largest t with t² × r² ≤ x is the root of x divided by r.
 use mathlib.Core.Path.{_≡_}
 use mathlib.Core.List.{List, [], _∷_}
 use Prim.Native.Nat.{ℕ, suc, _+_, _-_, _*_, _/_, _^_, _≤_, _<_}

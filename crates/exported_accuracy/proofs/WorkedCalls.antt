@@ -1,4 +1,5 @@
--- Worked calls on the words of a record, with each kind of call and of refusal among them. They come to a list that meets the hypothesis of demand 3, for every kind, any two windows in range and any words at the beginning.
+-- Worked calls on the words of a record, with each kind of call and of refusal among them. They come to a list that
+-- meets the hypothesis of demand 3, for every kind, any two windows in range and any words at the beginning.
 use mathlib.Core.Path.{_≡_, refl}
 use mathlib.Core.List.{List, [], _∷_}
 use mathlib.Core.Option.{none, some}

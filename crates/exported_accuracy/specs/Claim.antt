@@ -76,7 +76,9 @@ CalledObserve recording start number system windows before =
     WordsHold (kindWith number) (observedList (kindWith number) system recording start windows)
     (observeCallExit number system recording start windows before)
 
--- Demand 3 for the exported calls: the distance of a group value; a row that is worked from samples; and for any calls on any 122 words, refused ones and ones that lend fewer words included, the claim about the list that they have come to, where its accepted rows are worked from samples of one kind; and of an observation, whose rows are.
+-- Demand 3 for the exported calls: the distance of a group value; a row that is worked from samples; and for any calls on
+-- any 122 words, refused ones and ones that lend fewer words included, the claim about the list that they have come to,
+-- where its accepted rows are worked from samples of one kind; and of an observation, whose rows are.
 pub record ExportedDemand3Holds : Type 0 where
   pub groups :
       (recording : List ℤ) (start : ℕ) (buffer : List ℕ) (number system order before : ℕ) →

@@ -20,7 +20,10 @@ module _ (o : Observation) (q : Question) where
   unfolding verdictAnswer
   given-case v = go (eqb (verdictRefusal o q) noRefusal) refl
     where
-      go : (accepted : Bool) → eqb (verdictRefusal o q) noRefusal ≡ accepted → cond accepted (Given (verdictOf o q)) (Refused (verdictRefusal o q)) ≡ Given v → (verdictRefusal o q ≡ noRefusal) × (v ≡ verdictOf o q)
+      go :
+          (accepted : Bool) → eqb (verdictRefusal o q) noRefusal ≡ accepted →
+          cond accepted (Given (verdictOf o q)) (Refused (verdictRefusal o q)) ≡ Given v →
+          (verdictRefusal o q ≡ noRefusal) × (v ≡ verdictOf o q)
       go true p e = (eqb-true _ _ p, cc)
       go false p e = let z : _≡_ {A = ℕ} 0 1 = cc in absurd (omega arith)
 

@@ -1,4 +1,5 @@
--- Laws of the weighted sum over any list of weights, and over any span: every line is before the span's end, and the sum of 2×w×L is twice the sum of the lines, less one line at each end where the ends are half.
+-- Laws of the weighted sum over any list of weights, and over any span: every line is before the span's end, and
+-- the sum of 2×w×L is twice the sum of the lines, less one line at each end where the ends are half.
 -- Of the kinds' spans: for systems 10 and 12 twice the weights add up to at most 24, and for orders 1..40 the span ends among the 512 lines.
 use mathlib.Core.Path.{_≡_, refl, sym, ap}
 use mathlib.Core.Bool.{Bool, true, false, cond, true≢false}

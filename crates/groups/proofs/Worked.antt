@@ -1,4 +1,5 @@
--- The spans and weights of the kinds in figures; the edges of the refusal table's row "group value" and of its order, with the whole answers; and rows of values. Each is a table of rows and one computed theorem over it.
+-- The spans and weights of the kinds in figures; the edges of the refusal table's row "group value" and of its order,
+-- with the whole answers; and rows of values. Each is a table of rows and one computed theorem over it.
 use mathlib.Core.Bool.{Bool, true, false}
 use mathlib.Core.List.{List, [], _∷_, _++_, map}
 use mathlib.Core.Path.{_≡_, refl}

@@ -1,4 +1,5 @@
--- Worked listings, computed: document 01's own, where all values are zero, and one with the least and the greatest values; and the whole answers of the calls that write a listing and the line for a refusal.
+-- Worked listings, computed: document 01's own, where all values are zero, and one with the least and the
+-- greatest values; and the whole answers of the calls that write a listing and the line for a refusal.
 use mathlib.Core.List.{List, [], _∷_, _++_, map}
 use mathlib.Core.Path.{_≡_, refl}
 use Prim.Native.Nat.{ℕ}

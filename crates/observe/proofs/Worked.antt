@@ -1,4 +1,5 @@
--- Observations worked in figures: each refusal and each pair of neighbours in their order with the whole answer, the edges of a window's checks, and the record after document 01's pulse and a silent window.
+-- Observations worked in figures: each refusal and each pair of neighbours in their order with the whole answer,
+-- the edges of a window's checks, and the record after document 01's pulse and a silent window.
 use mathlib.Core.List.{List, [], _∷_, _++_, map}
 use mathlib.Core.Path.{_≡_, refl}
 use Prim.Native.Nat.{ℕ, _-_, _^_}

@@ -1,4 +1,5 @@
--- The invariant of an input that is read in blocks, over a text of w whole windows: the reading's refusal is the first of the text's lines, and a reading that goes on holds the record of the text's windows and the rows of its last.
+-- The invariant of an input that is read in blocks, over a text of w whole windows: the reading's refusal is the first of the
+-- text's lines, and a reading that goes on holds the record of the text's windows and the rows of its last.
 use mathlib.Core.Bool.{true, false, true≢false}
 use mathlib.Core.List.{List}
 use mathlib.Core.Path.{_≡_, refl, sym, _∙_}

@@ -23,7 +23,8 @@ unfoldable pub isNone : Option ℤ → Bool
 isNone none = true
 isNone (some z) = false
 
--- "13 for another line (also one without its newline) .., 1, 3, 9 at the last line of window 45,001, and two on one line in that order": by the number on a line and the line's place; line 0 has the system, line i the i-th sample
+-- "13 for another line (also one without its newline) .., 1, 3, 9 at the last line of window 45,001, and two on one line in
+-- that order": by the number on a line and the line's place; line 0 has the system, line i the i-th sample
 abbrev pub numberChecks : Option ℤ → ℕ → List (Bool × ℕ)
 numberChecks number i =
     (isNone number, notAColumn) ∷

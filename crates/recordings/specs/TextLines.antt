@@ -18,7 +18,8 @@ textLineBytes = columnWidth + 1
 unfoldable pub textLineCount : List ℕ → ℕ
 textLineCount text = (length text + columnWidth) / textLineBytes
 
--- The line with a number, counted from 0. Up to the first line that is wrong every line has 9 bytes, so cutting at every ninth byte finds that line where cutting at newlines does: a shorter or a longer line has its newline at another place.
+-- The line with a number, counted from 0. Up to the first line that is wrong every line has 9 bytes, so cutting at every ninth
+-- byte finds that line where cutting at newlines does: a shorter or a longer line has its newline at another place.
 unfoldable pub textLineAt : List ℕ → ℕ → List ℕ
 textLineAt text i = take textLineBytes (drop (textLineBytes * i) text)
 

@@ -33,7 +33,10 @@ no-faults ((fault, own) ∷ checks) positive e number = by-number (ltb 0 own) re
     by-test true here later = here
     by-test false here later = later
 
-    by-number : (above : Bool) → ltb 0 own ≡ above → cond above (numbered checks) false ≡ true → (numbered checks ≡ true → firstFault checks ≡ noRefusal → faultWith number checks ≡ false) → cond (eqb own number) fault (faultWith number checks) ≡ false
+    by-number :
+        (above : Bool) → ltb 0 own ≡ above → cond above (numbered checks) false ≡ true →
+        (numbered checks ≡ true → firstFault checks ≡ noRefusal → faultWith number checks ≡ false) →
+        cond (eqb own number) fault (faultWith number checks) ≡ false
     by-number true p rest later =
         let passed = no-fault fault own (firstFault checks) (ltb-true 0 own p) e in
         by-test (eqb own number) (passed .0) (later rest (passed .1))
@@ -53,7 +56,10 @@ firstFault-le ((fault, own) ∷ checks) all = by-number (leb own largestRefusal)
     by-fault true here later = here
     by-fault false here later = later
 
-    by-number : (small : Bool) → leb own largestRefusal ≡ small → cond small (known checks) false ≡ true → (known checks ≡ true → firstFault checks ≤ largestRefusal) → cond fault own (firstFault checks) ≤ largestRefusal
+    by-number :
+        (small : Bool) → leb own largestRefusal ≡ small → cond small (known checks) false ≡ true →
+        (known checks ≡ true → firstFault checks ≤ largestRefusal) →
+        cond fault own (firstFault checks) ≤ largestRefusal
     by-number true p rest later = by-fault fault (leb-true own largestRefusal p) (later rest)
     by-number false p rest later = absurd (mathlib.Core.Bool.true≢false (sym rest))
 

@@ -1,4 +1,5 @@
--- The worked numbers of the limits, of the verdicts (document 01, case •9, the edges, and each two neighbouring refusals in one call) and of their cases, each a table of rows and one computed theorem over it.
+-- The worked numbers of the limits, of the verdicts (document 01, case •9, the edges, and each two neighbouring
+-- refusals in one call) and of their cases, each a table of rows and one computed theorem over it.
 use mathlib.Core.Path.{_≡_, refl}
 use mathlib.Core.List.{List, [], _∷_, map}
 use Prim.Native.Nat.{ℕ, _-_}

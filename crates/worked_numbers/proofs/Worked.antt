@@ -52,7 +52,10 @@ unfolding pulse Pulse.pulse
 pulse-in-range = record { whole-window = refl; samples = Pulse.pulse-in-range }
 
 -- the pulse's value of a kind at every order, from the root of a sum over lines that are all alike
-pulse-group : (kind : Kind) (system value : ℕ) → isSystem system ≡ true → ((order : ℕ) → rootOf (weightedSum (λ k. 4000000) (weightsOf kind system order)) ≡ value) → (order : ℕ) → isOrder order ≡ true → groupAnswer kind system order (linesOf pulse) ≡ answer noRefusal value
+pulse-group :
+    (kind : Kind) (system value : ℕ) → isSystem system ≡ true →
+    ((order : ℕ) → rootOf (weightedSum (λ k. 4000000) (weightsOf kind system order)) ≡ value) → (order : ℕ) →
+    isOrder order ≡ true → groupAnswer kind system order (linesOf pulse) ≡ answer noRefusal value
 unfolding groupAnswer groupValue
 pulse-group kind system value known alike order known-order =
     rw (

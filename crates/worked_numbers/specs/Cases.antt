@@ -1,4 +1,5 @@
--- The worked numbers of document 01 that are marked •, as one table. A row names what is asked and the number that document 01 prints; `Holds` says what it claims, of the definitions that the contracts cite.
+-- The worked numbers of document 01 that are marked •, as one table. A row names what is asked and the number
+-- that document 01 prints; `Holds` says what it claims, of the definitions that the contracts cite.
 use mathlib.Core.Path.{_≡_}
 use mathlib.Core.Bool.{true}
 use mathlib.Core.List.{List, [], _∷_}

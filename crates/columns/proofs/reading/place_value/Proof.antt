@@ -1,4 +1,5 @@
--- `columns::reading::place_value` meets its contract. The loop's invariant: what is read so far, moved up by the places that are left, and the value of the digits there, make the text's value; so no value on the way is above it.
+-- `columns::reading::place_value` meets its contract. The loop's invariant: what is read so far, moved up by the places
+-- that are left, and the value of the digits there, make the text's value; so no value on the way is above it.
 use mathlib.Core.Path.{_≡_}
 use Prim.Native.Nat.{_+_, _*_, _^_, _≤_, _<_, _-_}
 use native.Mathlib.Omega.{arith}

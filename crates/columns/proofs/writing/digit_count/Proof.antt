@@ -1,4 +1,5 @@
--- `columns::writing::digit_count` meets its contract. The loop's invariant: the digits counted, and those of the rest but one, are the number's; each digit counted took at least 1 off the rest, so the count fits.
+-- `columns::writing::digit_count` meets its contract. The loop's invariant: the digits counted, and those of the
+-- rest but one, are the number's; each digit counted took at least 1 off the rest, so the count fits.
 use mathlib.Core.Path.{_≡_}
 use Prim.Native.Nat.{_+_, _≤_}
 use native.Mathlib.Omega.{arith}
