@@ -11,8 +11,9 @@ CFLAGS = -std=c99 -O2 -Wall -Wextra -pedantic
 
 all: $(EXAMPLES)
 
-# What is said of the archive's numbers is proved first; worked_numbers rests on exported_accuracy and
-# on the exporting crates. The file is as old as the beginning, so that an edit while the proofs run is not missed.
+# What is said of the archive's numbers is proved first; worked_numbers rests on exported_accuracy and on
+# the exporting crates. The file is as old as the beginning, so that an edit while the proofs run is not
+# missed.
 $(PROVED): crates.txt $(shell find crates -type d -o -name '*.rt' -o -name '*.antt')
 	@echo "Proving what was not proved before; all of it takes some minutes."
 	@mkdir -p $(@D) && touch $@.begun

@@ -281,9 +281,9 @@ uint32_t kifsang_fresh_record(uint32_t system, uint64_t *record, uint64_t record
  * Refusals: 102 record_words is not 122 or value_count is not 40; 7 the record is not sound; 1 system
  *   not 10 or 12; 8 another system than the record's; 9 the record holds 45,000 windows. A refused
  *   call leaves the record as it was.
- * Proved error: after any calls since a fresh record or an observation, where the rows that were added come from
- *   kifsang_spectrum and kifsang_row, all of one kind and with their own system, each smoothed value is
- *   at most 12 units from the exact one (exported-demand3).
+ * Proved error: after any calls since a fresh record or an observation, where the rows that were added
+ *   come from kifsang_spectrum and kifsang_row, all of one kind and with their own system, each smoothed
+ *   value is at most 12 units from the exact one (exported-demand3).
  * Definition: addRowCallRefusal and addRowCallExit, crates/exported_records/specs/RecordCalls.antt.
  */
 uint32_t kifsang_add_row(uint64_t *record, uint64_t record_words, uint32_t system,

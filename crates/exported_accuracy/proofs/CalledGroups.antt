@@ -16,7 +16,7 @@ use Rattle.accuracy.specs.Distance.{InRange, GroupsNear}
 use Rattle.accuracy.proofs.GroupDistance.{groups-near}
 use Rattle.exported_windows.specs.Kinds.{kindWith, kindCheck}
 use Rattle.exported_windows.specs.GroupCalls.{groupCallRefusal, groupCallExit, rowCallRefusal, rowCallExit}
-use Rattle.record_words.proofs.Handed.{own-first-none}
+use Rattle.exported_answers.proofs.Handed.{own-first-none}
 use Rattle.exported_accuracy.specs.Claim.{CalledGroup, CalledRow}
 
 module _ (recording : List ℤ) (start : ℕ) (buffer : List ℕ) (taken : spectrumRefusal recording start buffer ≡ noRefusal) where

@@ -17,13 +17,13 @@ use Rattle.accuracy.specs.Distance.{EveryOrder}
 use Rattle.accuracy.specs.CallList.{CallList, after}
 use Rattle.accuracy.specs.Claim.{WorkedList, ListHolds, reportedBook, observedList}
 use Rattle.accuracy.proofs.Demand3.{demand3}
-use Rattle.record_words.specs.OwnChecks.{wordCountCheck}
+use Rattle.exported_answers.specs.OwnChecks.{wordCountCheck}
 use Rattle.record_words.specs.Words.{recordWords}
 use Rattle.record_words.proofs.Words.{smoothed-word}
 use Rattle.exported_windows.specs.Kinds.{kindWith, kindCheck}
 use Rattle.exported_windows.specs.ObserveCall.{observeCallRefusal, observeCallExit}
 use Rattle.exported_records.specs.VerdictCall.{verdictCallRefusal, verdictCallExit}
-use Rattle.record_words.proofs.Handed.{own-first-none}
+use Rattle.exported_answers.proofs.Handed.{own-first-none}
 use Rattle.exported_records.proofs.VerdictCases.{given-case}
 use Rattle.exported_accuracy.specs.Calls.{wordsAfter}
 use Rattle.exported_accuracy.specs.Claim.{smoothedWord, CalledVerdict, WordsHold, CalledObserve, ExportedDemand3Holds}

@@ -28,7 +28,7 @@ use Rattle.accuracy.specs.CallList.{CallList, after}
 use Rattle.accuracy.specs.Claim.{observedList}
 use Rattle.accuracy.proofs.ObservedRows.{observed-system}
 use Rattle.exported_windows.specs.Kinds.{unknownKind, isKind, kindWith}
-use Rattle.record_words.specs.OwnChecks.{wrongWordCount, wordCountCheck, ownFirst}
+use Rattle.exported_answers.specs.OwnChecks.{wrongWordCount, wordCountCheck, ownFirst}
 use Rattle.record_words.specs.Words.{recordWords, partsOf, wordsOf, recordOf, Whole}
 use Rattle.record_words.proofs.Words.{record-of-words, wordsOf-length}
 use Rattle.exported_records.specs.RecordCalls.{lentRow, freshCallRefusal, freshCallExit, addRowCallRefusal, addRowCallExit}

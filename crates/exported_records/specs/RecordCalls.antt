@@ -5,7 +5,7 @@ use Rattle.refusals.specs.Answers.{unlessRefused}
 use Rattle.rows.specs.Orders.{orderCount}
 use Rattle.rows.specs.declared.Row.{Row}
 use Rattle.observation.specs.Calls.{emptyRecord, freshRefusal, withRow, addRowRefusal}
-use Rattle.record_words.specs.OwnChecks.{ownFirst, wordCountCheck}
+use Rattle.exported_answers.specs.OwnChecks.{ownFirst, wordCountCheck}
 use Rattle.record_words.specs.Words.{recordWords, recordOf, wordsOf}
 
 -- 102; then the row "fresh record"

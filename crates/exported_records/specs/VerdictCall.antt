@@ -8,7 +8,7 @@ use Rattle.verdict.specs.declared.Verdict.the-variants.{Within, Close, Over}
 use Rattle.verdict.specs.declared.VerdictAnswer.{VerdictAnswer}
 use Rattle.verdict.specs.declared.VerdictAnswer.the-variants.{Given, Refused}
 use Rattle.verdict.specs.Call.{verdictOf, verdictRefusal}
-use Rattle.record_words.specs.OwnChecks.{ownFirst, wordCountCheck}
+use Rattle.exported_answers.specs.OwnChecks.{ownFirst, wordCountCheck}
 use Rattle.record_words.specs.Words.{recordWords, recordOf}
 
 -- the number of each of document 01's three cases, the caller knows the order; 0 is none, so that a variable that was zeroed and that no call wrote says nothing

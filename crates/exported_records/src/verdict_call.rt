@@ -1,6 +1,6 @@
 // The verdict of an order, for callers in other languages.
+use exported_answers::WRONG_WORD_COUNT;
 use record_words::RECORD_WORDS;
-use record_words::WRONG_WORD_COUNT;
 use record_words::read_record;
 use refusals::NO_REFUSAL;
 use refusals::fault_or;

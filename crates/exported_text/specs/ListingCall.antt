@@ -5,7 +5,7 @@ use lib.ListN.{length}
 use Rattle.refusals.specs.Answers.{unlessRefused}
 use Rattle.listing.specs.Listing.{listingText, listingRefusal, listingExit}
 use Rattle.rows.specs.Orders.{orderCount}
-use Rattle.record_words.specs.OwnChecks.{ownFirst, wordCountCheck}
+use Rattle.exported_answers.specs.OwnChecks.{ownFirst, wordCountCheck}
 
 module _ (group subgroup smoothed : List ℕ) where
   -- 102 for each of the three rows; then the row "listing"

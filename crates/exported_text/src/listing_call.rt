@@ -1,6 +1,6 @@
 // The listing, for callers in other languages.
-use record_words::WRONG_WORD_COUNT;
-use record_words::hand_over;
+use exported_answers::WRONG_WORD_COUNT;
+use exported_answers::hand_over;
 use refusals::NO_REFUSAL;
 use refusals::fault_or;
 use rows::ORDER_COUNT;

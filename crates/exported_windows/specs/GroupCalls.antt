@@ -5,7 +5,7 @@ use Rattle.refusals.specs.Answers.{unlessRefused}
 use Rattle.groups.specs.Group.{groupValue, groupRefusal, groupValues, groupRowRefusal}
 use Rattle.rows.specs.Orders.{orderCount}
 use Rattle.distortion.specs.Distortion.{distortionOf, distortionAnswer}
-use Rattle.record_words.specs.OwnChecks.{ownFirst, wordCountCheck}
+use Rattle.exported_answers.specs.OwnChecks.{ownFirst, wordCountCheck}
 use Rattle.exported_windows.specs.Kinds.{kindWith, kindCheck}
 
 -- 101; then the row "group value"

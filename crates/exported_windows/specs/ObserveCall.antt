@@ -6,7 +6,7 @@ use Rattle.refusals.specs.Answers.{unlessRefused}
 use Rattle.observation.specs.Calls.{emptyRecord}
 use Rattle.observation.specs.RecordAfter.{recordAfter}
 use Rattle.observe.specs.Observe.{windowRows, observeRefusal}
-use Rattle.record_words.specs.OwnChecks.{ownFirst, wordCountCheck}
+use Rattle.exported_answers.specs.OwnChecks.{ownFirst, wordCountCheck}
 use Rattle.record_words.specs.Words.{recordWords, wordsOf}
 use Rattle.exported_windows.specs.Kinds.{kindWith, kindCheck}
 

@@ -1,12 +1,12 @@
 // The numbers that stand for the kinds of a group, for callers in other languages.
+use exported_answers::WRONG_WORD_COUNT;
 use groups::Kind;
-use record_words::WRONG_WORD_COUNT;
 use refusals::NO_REFUSAL;
 use refusals::fault_or;
 ghost use mathlib.Core.List.{[], _∷_};
 ghost use mathlib.Core.Path.{_≡_};
 ghost use Rattle.refusals.specs.Answers.{firstFault};
-ghost use Rattle.record_words.specs.OwnChecks.{wrongWordCount};
+ghost use Rattle.exported_answers.specs.OwnChecks.{wrongWordCount};
 ghost use Rattle.exported_windows.specs.Kinds.{isKind, kindWith, kindCheck};
 
 // A number that stands for no kind.

@@ -9,7 +9,7 @@ use lib.ListN.{length}
 use Rattle.refusals.specs.Numbers.{noRefusal}
 use Rattle.recordings.specs.declared.Reading.{Reading}
 use Rattle.recordings.specs.TextLines.{textLineBytes}
-use Rattle.recordings.specs.Output.{harmlistOutput}
+use Rattle.harmlist_output.specs.Output.{harmlistOutput}
 use Rattle.recordings.specs.Blocks.{windowBytes, beginOf, blockOf}
 use Rattle.harmlist_output.specs.Ending.{outputOf}
 use Rattle.harmlist_output.specs.Follows.{WholeButLast, readingAfter}

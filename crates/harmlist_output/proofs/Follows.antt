@@ -14,7 +14,8 @@ use Rattle.spectrum.specs.Line.{windowLength}
 use Rattle.recordings.specs.declared.Reading.{Reading}
 use Rattle.recordings.specs.TextLines.{textLineBytes, textLineCount}
 use Rattle.recordings.specs.InputRefusal.{isNone, textLineRefusal, firstOf, refusalBefore, endRefusal}
-use Rattle.recordings.specs.Output.{windowCount, listingFor, harmlistOutput}
+use Rattle.recordings.specs.Windows.{windowCount}
+use Rattle.harmlist_output.specs.Output.{listingFor, harmlistOutput}
 use Rattle.recordings.specs.Blocks.{windowBytes, beginOf, textLinesRefusal, blockLines, refusedWith, blockOf}
 use Rattle.harmlist_output.specs.Ending.{outputOf}
 use Rattle.harmlist_output.specs.Follows.{readingAfter, WholeButLast, FollowsDefinition, RefusedStays, StopsAtRefusal}

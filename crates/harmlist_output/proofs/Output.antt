@@ -9,7 +9,7 @@ use Rattle.listing.specs.RefusalLine.{refusalLine}
 use Rattle.spectrum.specs.Line.{windowLength}
 use Rattle.recordings.specs.TextLines.{textLineCount}
 use Rattle.recordings.specs.InputRefusal.{refusalBefore, endRefusal, inputRefusal}
-use Rattle.recordings.specs.Output.{listingFor, harmlistOutput}
+use Rattle.harmlist_output.specs.Output.{listingFor, harmlistOutput}
 
 module _ (text : List ℕ) where
   -- the refusal of a line

@@ -8,7 +8,7 @@ use Rattle.algebra.specs.Lists.{joined}
 use Rattle.refusals.specs.Numbers.{noRefusal}
 use Rattle.recordings.specs.declared.Reading.{Reading}
 use Rattle.recordings.specs.TextLines.{textLineBytes}
-use Rattle.recordings.specs.Output.{harmlistOutput}
+use Rattle.harmlist_output.specs.Output.{harmlistOutput}
 use Rattle.recordings.specs.Blocks.{windowBytes, beginOf, blockOf}
 use Rattle.harmlist_output.specs.Ending.{outputOf}
 

@@ -25,6 +25,11 @@ edges : listingText (1 ∷ 0 ∷ 4294967295 ∷ replicate 37 0) (0 ∷ 8944 ∷ 
 unfolding listingText ordersText orderText orderLine header columnText rightJustified numberText decimalText decimalWithin bytesOf
 edges = refl
 
+-- a value that is missing counts as 0, and one after the 40th is not looked at
+other-counts : listingText (replicate 39 0) [] (replicate 40 0 ++ (9 ∷ [])) ≡ zerosText
+unfolding listingText ordersText orderText orderLine header columnText rightJustified numberText decimalText decimalWithin bytesOf
+other-counts = refl
+
 -- ---- the whole answers: the refusal, and the buffer afterwards
 
 -- a line for a refusal: the buffer, the number that the line is of, the refusal, and the buffer afterwards

@@ -23,7 +23,7 @@ const ORDER_WIDTH: usize = 3;
 const VALUE_WIDTH: usize = 12;
 
 // Fills the buffer with the listing of the 40 orders' values, and answers the count of its bytes. Values
-// that are missing count as 0.
+// that are missing count as 0, and those after the 40th are not looked at.
 pub fn fill_listing(group: &[u32], subgroup: &[u32], smoothed: &[u32], buffer: &mut [u8]) -> Answer
     ensures { λ r. ⌜ r ≡ listingAnswer (now (buffer .entry)) (now (group .entry)) (now (subgroup .entry)) (now (smoothed .entry)) ⌝ }
     ensures { λ _. ⌜ now (buffer .exit) ≡ listingExit (now (buffer .entry)) (now (group .entry)) (now (subgroup .entry)) (now (smoothed .entry)) ⌝ }

@@ -2,23 +2,13 @@
 use mathlib.Core.Path.{_≡_, refl, ap₂, _∙_}
 use mathlib.Core.List.{List, [], _∷_, _++_, map, append-assoc}
 use Prim.Native.Nat.{ℕ, _+_, _≤_}
-use native.Mathlib.Nat.{add-zero, le-of-eq}
 use native.Mathlib.Omega.{arith}
-use lib.ListN.{length, getD, take, drop, length-append}
-use lib.Seq.{take-all, take-at, drop-at, take-add, drop-drop, length-take-le}
-use Rattle.algebra.specs.Lists.{tabulate, joined}
+use lib.ListN.{length, take, drop, length-append}
+use lib.Seq.{take-at, drop-at, take-add, drop-drop, length-take-le}
+use Rattle.algebra.specs.Lists.{joined}
 use Rattle.algebra.proofs.Lists.{tabulate-part}
-use Rattle.record_words.specs.Parts.{wordsFrom, partsFrom, total}
-
--- a part of one word
-pub wordsFrom-one : (place : ℕ) (words : List ℕ) → getD (wordsFrom place 1 words) 0 0 ≡ getD words place 0
-unfolding wordsFrom tabulate
-wordsFrom-one place words = rw (add-zero place)
-
--- as many words from the first on are all
-pub wordsFrom-whole : (words : List ℕ) (count : ℕ) → length words ≡ count → wordsFrom 0 count words ≡ words
-unfolding wordsFrom
-wordsFrom-whole words count whole = tabulate-part words 0 count (omega arith) ∙ take-all count words (le-of-eq whole)
+use Rattle.exported_answers.specs.LentWords.{wordsFrom}
+use Rattle.record_words.specs.Parts.{partsFrom, total}
 
 pub joined-length : (parts : List (List ℕ)) → length (joined parts) ≡ total (map length parts)
 unfolding joined

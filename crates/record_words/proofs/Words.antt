@@ -16,7 +16,8 @@ use Rattle.rows.proofs.Systems.{system-bounds}
 use Rattle.observation.specs.declared.Observation.{Observation}
 use Rattle.observation.specs.Soundness.{isSound}
 use Rattle.observation.proofs.SoundRecord.{sound-parts}
-use Rattle.record_words.specs.Parts.{wordsFrom, partsFrom, total}
+use Rattle.exported_answers.specs.LentWords.{wordsFrom}
+use Rattle.record_words.specs.Parts.{partsFrom, total}
 use Rattle.record_words.specs.Words.{recordParts, recordWords, smoothedPlace, partsOf, ofParts, wordsOf, recordOf, recordRead, Whole, wordsWith}
 use Rattle.record_words.proofs.Parts.{joined-length, partsFrom-joined, joined-partsFrom}
 

@@ -1,12 +1,7 @@
 -- Words that hold parts one after the other.
 use mathlib.Core.List.{List, [], _∷_}
 use Prim.Native.Nat.{ℕ, _+_}
-use lib.ListN.{getD}
-use Rattle.algebra.specs.Lists.{tabulate}
-
--- so many words from a place on; words that are missing count as 0
-unfoldable pub wordsFrom : ℕ → ℕ → List ℕ → List ℕ
-wordsFrom place count words = tabulate count (λ i. getD words (place + i) 0)
+use Rattle.exported_answers.specs.LentWords.{wordsFrom}
 
 -- the parts of some words from a place on, by their counts of words: each begins where the part before it ends
 unfoldable pub partsFrom : ℕ → List ℕ → List ℕ → List (List ℕ)

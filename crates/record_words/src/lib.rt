@@ -1,12 +1,9 @@
-// What a caller of the interface keeps and receives: answers, rows, and an observation record as
-// words, the parts of the record one after the other in the order of include/kifsang.h. The places
-// of the parts stand here once for the code, and in specs/Words.antt once for the contracts.
-mod answers;
+// An observation record as the words that a caller keeps, the parts of the record one after the other in
+// the order of include/kifsang.h. The places of the parts stand here once for the code, and in
+// specs/Words.antt once for the contracts.
 mod reading;
 mod writing;
 
-pub use answers::hand_over;
-pub use answers::hand_over_row;
 pub use reading::read_record;
 use rows::ORDER_COUNT;
 pub use writing::hand_over_record;
@@ -23,6 +20,3 @@ const SUM_PLACE: usize = SMOOTHED_PLACE + ORDER_COUNT;
 const PEAK_PLACE: usize = SUM_PLACE + ORDER_COUNT;
 // The words of a record.
 pub const RECORD_WORDS: usize = PEAK_PLACE + ORDER_COUNT;
-
-// A slice of the wrong number of words for a row or a record: a refusal of an exported call's own.
-pub const WRONG_WORD_COUNT: u32 = 102;

@@ -12,7 +12,7 @@ ghost use Prim.Native.Nat.{_<_, min};
 ghost use lib.ListN.{getD};
 ghost use Rattle.rows.specs.Orders.{orderCount};
 ghost use Rattle.rows.specs.Rows.{largestValue};
-ghost use Rattle.record_words.specs.Parts.{wordsFrom};
+ghost use Rattle.exported_answers.specs.LentWords.{wordsFrom};
 ghost use Rattle.record_words.specs.Words.{recordWords, recordRead};
 
 // The word at a place, 0 past the last.

@@ -18,7 +18,7 @@ use Rattle.observation.specs.Calls.{freshRefusal, freshAnswer}
 use Rattle.recordings.specs.declared.Reading.{Reading}
 use Rattle.recordings.specs.TextLines.{textLineAt, textLineNumber, numberOr0, numberAt}
 use Rattle.recordings.specs.InputRefusal.{isNone, noSystem, numberRefusal, textLineRefusal}
-use Rattle.recordings.specs.Output.{systemIn}
+use Rattle.recordings.specs.Windows.{systemIn}
 use Rattle.recordings.specs.Blocks.{beginOf}
 use Rattle.recordings.specs.Steps.{largestSystem, systemWord}
 

@@ -20,7 +20,7 @@ use Rattle.refusals.proofs.Answers.{no-faults}
 use Rattle.recordings.specs.declared.Reading.{Reading}
 use Rattle.recordings.specs.TextLines.{textLineBytes, textLineAt, textLineNumber, numberOr0, numberAt}
 use Rattle.recordings.specs.InputRefusal.{noSystem, numberChecks, numberRefusal, textLineRefusal, firstOf, refusalBefore}
-use Rattle.recordings.specs.Output.{systemIn, windowIn, rowsIn, recordIn}
+use Rattle.recordings.specs.Windows.{systemIn, windowIn, rowsIn, recordIn}
 use Rattle.groups.specs.Group.{windowRow}
 use Rattle.recordings.specs.Blocks.{beginOf}
 use Rattle.recordings.proofs.TextLines.{linesTo}

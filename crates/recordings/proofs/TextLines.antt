@@ -18,7 +18,7 @@ use Rattle.observation.specs.Calls.{freshAnswer}
 use Rattle.observation.specs.RecordAfter.{recordAfter}
 use Rattle.recordings.specs.TextLines.{textLineBytes, textLineAt, textLineNumber, numberOr0, numberAt}
 use Rattle.recordings.specs.InputRefusal.{isNone, numberRefusal, textLineRefusal, refusalBefore}
-use Rattle.recordings.specs.Output.{systemIn, windowIn, rowsIn, recordIn}
+use Rattle.recordings.specs.Windows.{systemIn, windowIn, rowsIn, recordIn}
 use Rattle.recordings.specs.Blocks.{sampleRefusal, samplesOf}
 use Rattle.recordings.proofs.FirstOf.{firstOf-same}
 

@@ -22,7 +22,7 @@ use Rattle.observation.proofs.RecordAfter.{record-after-tabulate}
 use Rattle.recordings.specs.declared.Reading.{Reading}
 use Rattle.recordings.specs.TextLines.{textLineBytes}
 use Rattle.recordings.specs.InputRefusal.{refusalBefore}
-use Rattle.recordings.specs.Output.{systemIn, windowIn, rowsIn, recordIn}
+use Rattle.recordings.specs.Windows.{systemIn, windowIn, rowsIn, recordIn}
 use Rattle.groups.specs.Group.{windowRow}
 use Rattle.recordings.specs.Blocks.{windowBytes, textLinesRefusal, blockLines, samplesOf, refusedWith, windowTaken, blockOf}
 use Rattle.recordings.proofs.BlockLaws.{blockLines-whole, blockOf-refused, blockOf-text-line, blockOf-whole}

@@ -17,7 +17,7 @@ use Rattle.observation.specs.Calls.{emptyRecord, refusedRecord, addRowAnswer}
 use Rattle.recordings.specs.declared.Reading.{Reading}
 use Rattle.recordings.specs.TextLines.{textLineBytes, textLineCount, textLineAt, textLineNumber, numberOr0, numberAt}
 use Rattle.recordings.specs.InputRefusal.{isNone, textLineRefusal, firstOf}
-use Rattle.recordings.specs.Output.{systemIn}
+use Rattle.recordings.specs.Windows.{systemIn}
 use Rattle.groups.specs.Group.{windowRow}
 
 -- the bytes of a window's lines

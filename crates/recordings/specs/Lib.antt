@@ -1,6 +1,6 @@
--- What the program harmlist writes for an input, and what the calls answer that read the input a block at a time.
+-- What the lines of an input hold and where they are refused, and what the calls answer that read it a block at a time.
 pub mod TextLines
 pub mod InputRefusal
-pub mod Output
+pub mod Windows
 pub mod Blocks
 pub mod Steps

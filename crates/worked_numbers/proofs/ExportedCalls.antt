@@ -1,4 +1,4 @@
--- The exported calls in figures: the interface's own refusals, each two neighbouring checks in their order, and what the caller's numbers and words
+-- The exported calls in figures: the calls' own refusals, each two neighbouring checks in their order, and what the caller's numbers and words
 -- hold after. Each call has a table of rows and one computed theorem over it; a lent number is 77 before the call, a lent word 7. kifsang_spectrum,
 -- kifsang_lines_from and kifsang_write_column have no check of their own: their tables are those of `spectrum` and `columns`.
 use mathlib.Core.Path.{_≡_, refl}
@@ -37,7 +37,8 @@ use Rattle.columns.specs.Calls.{columnReadAnswer}
 use Rattle.listing.specs.Listing.{header, orderLine, orderText, ordersText, listingText, listingRefusal, listingExit}
 use Rattle.exported_windows.specs.Kinds.{kinds, isKind, kindWith}
 use Rattle.exported_windows.specs.GroupCalls.{groupCallRefusal, groupCallExit, rowCallRefusal, rowCallExit, distortionCallRefusal, distortionCallExit}
-use Rattle.record_words.specs.Parts.{wordsFrom, partsFrom}
+use Rattle.exported_answers.specs.LentWords.{wordsFrom}
+use Rattle.record_words.specs.Parts.{partsFrom}
 use Rattle.record_words.specs.Words.{partsOf, ofParts, wordsOf, recordOf}
 use Rattle.exported_text.specs.ColumnCalls.{columnCallExit}
 use Rattle.exported_text.specs.ListingCall.{listingCallRefusal, listingCallExit, listingCallCountExit}
@@ -227,28 +228,30 @@ columns-worked = refl
 
 -- ---- kifsang_fill_listing
 
--- rows of so many zeros: the refusal, the count of bytes, and the buffer after
-listingFor : ℕ → ℕ → ℕ → List ℕ → ℕ × (ℕ × List ℕ)
-listingFor group subgroup smoothed buffer =
-    let values : ℕ → List ℕ = λ count. replicate count 0 in (
-      listingCallRefusal (values group) (values subgroup) (values smoothed) buffer,
-      (
-        listingCallCountExit (values group) (values subgroup) (values smoothed) buffer 77,
-        listingCallExit (values group) (values subgroup) (values smoothed) buffer,
-      ),
-    )
+-- the refusal, the count of bytes, and the buffer after
+listingFor : List ℕ → List ℕ → List ℕ → List ℕ → ℕ × (ℕ × List ℕ)
+listingFor group subgroup smoothed buffer = (
+  listingCallRefusal group subgroup smoothed buffer,
+  (listingCallCountExit group subgroup smoothed buffer 77, listingCallExit group subgroup smoothed buffer),
+)
+
+zeros : ℕ → List ℕ
+zeros count = replicate count 0
 
 listings-worked :
     Alike
     ((
-      listingFor 40 40 40 (replicate 1640 7),
+      listingFor (zeros 40) (zeros 40) (zeros 40) (replicate 1640 7),
       (0, (80, bytesOf "  h       group    subgroup    smoothed\n  1           0           0           0\n" ++ replicate 1560 7)),
+    ) ∷ (
+      listingFor (1 ∷ zeros 39) (2 ∷ zeros 39) (3 ∷ zeros 39) (replicate 1640 7),
+      (0, (80, bytesOf "  h       group    subgroup    smoothed\n  1           1           2           3\n" ++ replicate 1560 7)),
     ) ∷
     -- 102 of each row, and 102 before 14
-    (listingFor 39 40 40 (replicate 9 7), (102, (77, replicate 9 7))) ∷
-    (listingFor 40 41 40 (replicate 9 7), (102, (77, replicate 9 7))) ∷
-    (listingFor 40 40 0 (replicate 9 7), (102, (77, replicate 9 7))) ∷
-    (listingFor 40 40 40 (replicate 1639 7), (14, (77, replicate 1639 7))) ∷
+    (listingFor (zeros 39) (zeros 40) (zeros 40) (replicate 9 7), (102, (77, replicate 9 7))) ∷
+    (listingFor (zeros 40) (zeros 41) (zeros 40) (replicate 9 7), (102, (77, replicate 9 7))) ∷
+    (listingFor (zeros 40) (zeros 40) [] (replicate 9 7), (102, (77, replicate 9 7))) ∷
+    (listingFor (zeros 40) (zeros 40) (zeros 40) (replicate 1639 7), (14, (77, replicate 1639 7))) ∷
     [])
-unfolding Alike listingFor listingCallRefusal listingCallCountExit listingCallExit listingRefusal listingExit listingText ordersText orderText orderLine header columnText rightJustified numberText decimalText decimalWithin bytesOf
+unfolding Alike listingFor zeros listingCallRefusal listingCallCountExit listingCallExit listingRefusal listingExit listingText ordersText orderText orderLine header columnText rightJustified numberText decimalText decimalWithin bytesOf
 listings-worked = refl

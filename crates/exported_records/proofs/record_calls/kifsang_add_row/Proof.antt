@@ -10,9 +10,10 @@ use Rattle.observation.specs.declared.Observation.{Observation}
 use Rattle.observation.specs.Calls.{withRow, addRowRefusal, addRowAnswer}
 use Rattle.record_words.specs.Words.{recordWords, recordRead, wordsOf}
 use Rattle.record_words.proofs.Words.{recordRead-same}
-use Rattle.record_words.specs.OwnChecks.{wordCountCheck}
+use Rattle.exported_answers.specs.OwnChecks.{wordCountCheck}
 use Rattle.exported_records.specs.RecordCalls.{lentRow, addRowCallRefusal, addRowCallExit}
-use Rattle.record_words.proofs.Handed.{own-refused, count-passed, handed-record}
+use Rattle.exported_answers.proofs.Handed.{own-refused, count-passed}
+use Rattle.record_words.proofs.Handed.{handed-record}
 use Rattle.exported_records.proofs.record_calls.kifsang_add_row.Statement.{statement}
 use Rattle.exported_records.proofs.record_calls.kifsang_add_row.Tie as tie
 

@@ -5,7 +5,8 @@ use Rattle.observation.specs.declared.Observation.{Observation}
 use Rattle.observation.specs.Calls.{emptyRecord, refusedRecord, freshRefusal, freshAnswer}
 use Rattle.record_words.specs.Words.{recordWords}
 use Rattle.exported_records.specs.RecordCalls.{freshCallRefusal, freshCallExit}
-use Rattle.record_words.proofs.Handed.{own-refused, count-passed, handed-record}
+use Rattle.exported_answers.proofs.Handed.{own-refused, count-passed}
+use Rattle.record_words.proofs.Handed.{handed-record}
 use Rattle.exported_records.proofs.record_calls.kifsang_fresh_record.Statement.{statement}
 use Rattle.exported_records.proofs.record_calls.kifsang_fresh_record.Tie as tie
 

@@ -8,7 +8,7 @@ use Rattle.verdict.specs.Call.{verdictOf, verdictRefusal, verdictAnswer}
 use Rattle.record_words.specs.Words.{recordRead}
 use Rattle.record_words.proofs.Words.{recordRead-same}
 use Rattle.exported_records.specs.VerdictCall.{verdictNumber, verdictCallRefusal, verdictCallExit}
-use Rattle.record_words.proofs.Handed.{own-refused}
+use Rattle.exported_answers.proofs.Handed.{own-refused}
 use Rattle.exported_records.proofs.VerdictCases.{verdict-received}
 use Rattle.exported_records.proofs.verdict_call.kifsang_verdict.Statement.{statement}
 use Rattle.exported_records.proofs.verdict_call.kifsang_verdict.Tie as tie

@@ -5,7 +5,7 @@ use Rattle.rows.specs.Orders.{orderCount}
 use Rattle.rows.proofs.Rows.{firstValues-whole}
 use Rattle.distortion.specs.Distortion.{distortionOf, distortionAnswer}
 use Rattle.exported_windows.specs.GroupCalls.{distortionCallRefusal, distortionCallExit}
-use Rattle.record_words.proofs.Handed.{own-refused, count-passed, handed-answer}
+use Rattle.exported_answers.proofs.Handed.{own-refused, count-passed, handed-answer}
 use Rattle.exported_windows.proofs.group_calls.kifsang_distortion.Statement.{statement}
 use Rattle.exported_windows.proofs.group_calls.kifsang_distortion.Tie as tie
 

@@ -7,7 +7,7 @@ use Rattle.refusals.specs.Answers.{firstFault}
 use Rattle.groups.specs.Group.{groupRefusal, groupValue, groupAnswer}
 use Rattle.exported_windows.specs.Kinds.{kindWith, kindCheck}
 use Rattle.exported_windows.specs.GroupCalls.{groupCallRefusal, groupCallExit}
-use Rattle.record_words.proofs.Handed.{own-refused, handed-answer}
+use Rattle.exported_answers.proofs.Handed.{own-refused, handed-answer}
 use Rattle.exported_windows.proofs.group_calls.kifsang_group_value.Statement.{statement}
 use Rattle.exported_windows.proofs.group_calls.kifsang_group_value.Tie as tie
 

@@ -9,13 +9,13 @@ use Rattle.algebra.proofs.Lists.{length-tabulate}
 use Rattle.refusals.specs.Numbers.{noRefusal}
 use Rattle.refusals.proofs.Answers.{no-fault}
 use Rattle.rows.specs.Orders.{orderCount}
-use Rattle.record_words.proofs.Parts.{wordsFrom-whole}
+use Rattle.exported_answers.proofs.LentWords.{wordsFrom-whole}
 use Rattle.groups.specs.Group.{groupValues, groupRowAnswer}
 use Rattle.groups.specs.declared.Kind.{Kind}
 use Rattle.groups.proofs.GroupSum.{groupRowAnswer-values}
 use Rattle.exported_windows.specs.Kinds.{unknownKind, kindWith, kindCheck}
 use Rattle.exported_windows.specs.GroupCalls.{rowCallRefusal, rowCallExit}
-use Rattle.record_words.proofs.Handed.{own-refused, count-passed}
+use Rattle.exported_answers.proofs.Handed.{own-refused, count-passed}
 use Rattle.exported_windows.proofs.group_calls.kifsang_row.Statement.{statement}
 use Rattle.exported_windows.proofs.group_calls.kifsang_row.Tie as tie
 

@@ -11,7 +11,8 @@ use Rattle.observe.specs.Observe.{windowRows, observeRefusal, observeAnswer}
 use Rattle.record_words.specs.Words.{recordWords}
 use Rattle.exported_windows.specs.Kinds.{unknownKind, kindWith, kindCheck}
 use Rattle.exported_windows.specs.ObserveCall.{observeCallRefusal, observeCallExit}
-use Rattle.record_words.proofs.Handed.{own-refused, count-passed, handed-record}
+use Rattle.exported_answers.proofs.Handed.{own-refused, count-passed}
+use Rattle.record_words.proofs.Handed.{handed-record}
 use Rattle.exported_windows.proofs.observe_call.kifsang_observe.Statement.{statement}
 use Rattle.exported_windows.proofs.observe_call.kifsang_observe.Tie as tie
 

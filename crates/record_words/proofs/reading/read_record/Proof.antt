@@ -2,7 +2,7 @@
 use borrow.Author.Needs.{needs}
 use Rattle.record_words.specs.Parts.{partsFrom}
 use Rattle.record_words.specs.Words.{recordRead, ofParts}
-use Rattle.record_words.proofs.Parts.{wordsFrom-one}
+use Rattle.exported_answers.proofs.LentWords.{wordsFrom-one}
 use Rattle.record_words.proofs.reading.read_record.Statement.{statement}
 use Rattle.record_words.proofs.reading.read_record.Tie as tie
 

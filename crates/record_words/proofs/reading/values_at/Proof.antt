@@ -8,7 +8,7 @@ use lib.ListN.{getD, replicate}
 use Rattle.algebra.specs.Lists.{tabulate}
 use Rattle.algebra.proofs.Filling.{Filled, filled-more, filled-whole}
 use Rattle.rows.specs.Orders.{orderCount}
-use Rattle.record_words.specs.Parts.{wordsFrom}
+use Rattle.exported_answers.specs.LentWords.{wordsFrom}
 use Rattle.record_words.proofs.reading.values_at.Statement.{statement}
 use Rattle.record_words.proofs.reading.values_at.Tie as tie
 

@@ -1,10 +1,10 @@
--- `record_words::answers::hand_over_row` meets its contract, by whether the row is refused.
+-- `exported_answers::hand_over_row` meets its contract, by whether the row is refused.
 use mathlib.Core.Path.{refl}
 use borrow.Author.Needs.{needs}
 use borrow.Author.Tests.{ne-eqb}
 use Rattle.refusals.specs.Numbers.{noRefusal}
-use Rattle.record_words.proofs.answers.hand_over_row.Statement.{statement}
-use Rattle.record_words.proofs.answers.hand_over_row.Tie as tie
+use Rattle.exported_answers.proofs.hand_over_row.Statement.{statement}
+use Rattle.exported_answers.proofs.hand_over_row.Tie as tie
 
 returns : tie.Need-returns
 returns c = let at-put = c .before .before in (refl, rw (at-put .before .before .if1 .taken) (at-put .put-row .ensures))

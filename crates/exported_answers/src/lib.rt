@@ -1,11 +1,15 @@
-// What a caller receives of an answer: its value, or the values of a row, unless it is refused.
+// What a caller of an exported call receives of an answer: its value, or the values of a row, unless it
+// is refused.
 use lists::number_at;
 use refusals::Answer;
 use refusals::NO_REFUSAL;
 ghost use mathlib.Core.Path.{_≡_};
 ghost use lib.ListN.{length};
 ghost use Rattle.refusals.specs.Answers.{unlessRefused};
-ghost use Rattle.record_words.specs.Parts.{wordsFrom};
+ghost use Rattle.exported_answers.specs.LentWords.{wordsFrom};
+
+// A slice of the wrong number of words for a row or a record: a refusal of an exported call's own.
+pub const WRONG_WORD_COUNT: u32 = 102;
 
 // Hands an answer to the caller: its value, unless it is a refusal, and its number.
 pub fn hand_over(answer: Answer, value: &mut u64) -> u32

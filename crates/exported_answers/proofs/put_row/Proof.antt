@@ -1,4 +1,4 @@
--- `record_words::answers::put_row` meets its contract. The loop's invariant: the values are filled up to `i` with the row's.
+-- `exported_answers::put_row` meets its contract. The loop's invariant: the values are filled up to `i` with the row's.
 -- The measure is the count of values that are left.
 use mathlib.Core.Path.{_≡_, refl}
 use Prim.Native.Nat.{_+_, _-_, _≤_, _<_}
@@ -8,9 +8,9 @@ use borrow.Author.Needs.{needs}
 use lib.ListN.{length, getD}
 use Rattle.algebra.specs.Lists.{tabulate}
 use Rattle.algebra.proofs.Filling.{Filled, filled-more, filled-whole}
-use Rattle.record_words.specs.Parts.{wordsFrom}
-use Rattle.record_words.proofs.answers.put_row.Statement.{statement}
-use Rattle.record_words.proofs.answers.put_row.Tie as tie
+use Rattle.exported_answers.specs.LentWords.{wordsFrom}
+use Rattle.exported_answers.proofs.put_row.Statement.{statement}
+use Rattle.exported_answers.proofs.put_row.Tie as tie
 
 abbrev Inv-loop : tie.InvT-loop
 Inv-loop row values₀ i₀ values i =

@@ -1,9 +1,9 @@
--- `record_words::answers::hand_over` meets its contract, by whether the answer is a refusal.
+-- `exported_answers::hand_over` meets its contract, by whether the answer is a refusal.
 use mathlib.Core.Path.{refl}
 use borrow.Author.Tests.{ne-eqb}
 use Rattle.refusals.specs.Numbers.{noRefusal}
-use Rattle.record_words.proofs.answers.hand_over.Statement.{statement}
-use Rattle.record_words.proofs.answers.hand_over.Tie as tie
+use Rattle.exported_answers.proofs.hand_over.Statement.{statement}
+use Rattle.exported_answers.proofs.hand_over.Tie as tie
 
 returns : tie.Need-returns
 returns c = (refl, rw (c .if1 .taken))

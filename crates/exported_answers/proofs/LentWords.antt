@@ -1,0 +1,21 @@
+-- Words from a place on: one of them, and all.
+use mathlib.Core.Path.{_≡_, _∙_}
+use mathlib.Core.List.{List}
+use Prim.Native.Nat.{ℕ}
+use native.Mathlib.Nat.{add-zero, le-of-eq}
+use native.Mathlib.Omega.{arith}
+use lib.ListN.{length, getD}
+use lib.Seq.{take-all}
+use Rattle.algebra.specs.Lists.{tabulate}
+use Rattle.algebra.proofs.Lists.{tabulate-part}
+use Rattle.exported_answers.specs.LentWords.{wordsFrom}
+
+-- one word
+pub wordsFrom-one : (place : ℕ) (words : List ℕ) → getD (wordsFrom place 1 words) 0 0 ≡ getD words place 0
+unfolding wordsFrom tabulate
+wordsFrom-one place words = rw (add-zero place)
+
+-- as many words from the first on are all
+pub wordsFrom-whole : (words : List ℕ) (count : ℕ) → length words ≡ count → wordsFrom 0 count words ≡ words
+unfolding wordsFrom
+wordsFrom-whole words count whole = tabulate-part words 0 count (omega arith) ∙ take-all count words (le-of-eq whole)

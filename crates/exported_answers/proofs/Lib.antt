@@ -1,0 +1,3 @@
+-- What the proofs of several exported functions use.
+pub mod Handed
+pub mod LentWords
