@@ -1,5 +1,7 @@
-// What a caller of an exported call receives of an answer: its value, or the values of a row, unless it
-// is refused.
+// What the exported calls have in common. Each passes numbers, single-number references and slices on to
+// the proved library. It answers a refusal's number, NO_REFUSAL where it accepts the call, and a refused
+// call leaves every buffer as it was. What the caller receives of an answer, its value or the values of a
+// row, is handed over here.
 use lists::number_at;
 use refusals::Answer;
 use refusals::NO_REFUSAL;

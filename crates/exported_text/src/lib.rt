@@ -1,6 +1,4 @@
 // The calls for C, C++ and Rust programs for number columns and the listing; include/kifsang.h
-// declares them. Each passes numbers, single-number references and slices on to the proved library. It
-// answers a refusal's number, NO_REFUSAL where it accepts the call, and a refused call leaves every
-// buffer as it was.
+// declares them. exported_answers says what they have in common.
 mod column_calls;
 mod listing_call;

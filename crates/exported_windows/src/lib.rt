@@ -1,7 +1,5 @@
 // The calls for C, C++ and Rust programs from a recording's window to its lines, groups and record;
-// include/kifsang.h declares them. Each passes numbers, single-number references and slices on to the
-// proved library. It answers a refusal's number, NO_REFUSAL where it accepts the call, and a refused
-// call leaves every buffer as it was.
+// include/kifsang.h declares them. exported_answers says what they have in common.
 mod group_calls;
 mod kinds;
 mod line_calls;
