@@ -1,7 +1,8 @@
 //! Second program for document 01 ("Harmonic groups, smoothing and class A
-//! verdicts of a mains current"). It is written from that document alone and
-//! shares no code and no table with the proved core, so that the two can be
-//! compared on many inputs. Speed and memory come after plainness here.
+//! verdicts of a mains current") and the cards of document 02 that have landed.
+//! It is written from these documents alone and shares no code and no table with
+//! the proved core, so that the two can be compared on many inputs. Speed and
+//! memory come after plainness here.
 
 pub mod annex_c;
 pub mod columns;
@@ -11,6 +12,7 @@ pub mod groups;
 pub mod harmlist;
 pub mod inputs;
 pub mod largest;
+pub mod limits;
 pub mod listing;
 pub mod natural;
 pub mod observation;

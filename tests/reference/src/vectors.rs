@@ -7,6 +7,7 @@ use crate::columns::{read_column, write_column};
 use crate::distortion::distortion;
 use crate::groups::{Kind, group_row, group_value};
 use crate::largest::largest;
+use crate::limits::order_limit;
 use crate::listing::{LISTING_ROOM, fill_listing};
 use crate::observation::{MOST_WINDOWS, Observation, add_row, fresh_record};
 use crate::observe::observe;
@@ -145,6 +146,14 @@ impl<W: Write> Printer<W> {
         self.line("add_row", &[refusal.into(), row.system], &row.values)?;
         self.record(&next)?;
         Ok(next)
+    }
+
+    fn limit_case(&mut self, order: u64) -> Result<()> {
+        let result = order_limit(order);
+        let (numerator, denominator) =
+            result.map_or((0, 0), |limit| (limit.numerator, limit.denominator));
+        let refusal = number_or_zero(&result).into();
+        self.numbers("limit", &[order, refusal, numerator, denominator])
     }
 
     fn verdict_case(&mut self, record: &Observation, order: u64, scale: u64) -> Result<()> {
@@ -454,6 +463,14 @@ fn print_verdicts_about<W: Write>(
     Ok(())
 }
 
+fn print_limits<W: Write>(printer: &mut Printer<W>) -> Result<()> {
+    printer.comment("the limit of each order")?;
+    for order in (0..=42).chain([u64::from(u32::MAX)]) {
+        printer.limit_case(order)?;
+    }
+    Ok(())
+}
+
 fn print_verdicts<W: Write>(printer: &mut Printer<W>) -> Result<()> {
     for order in 2..=40 {
         for (scale, windows) in [(1_000_000, 1), (987_654, 7), (268_435_456, 3)] {
@@ -567,6 +584,7 @@ pub fn print_vectors(seed: u64, output: impl Write) -> Result<()> {
     print_records(printer, random)?;
     print_record_edges(printer)?;
     print_observations(printer, seed)?;
+    print_limits(printer)?;
     print_verdicts(printer)?;
     print_columns(printer, random)?;
     print_listings(printer, random)

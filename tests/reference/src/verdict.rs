@@ -1,6 +1,7 @@
-//! Class A verdicts (document 01, section of that name). Limits stay exact
-//! fractions, and fractions are compared by cross products.
+//! Class A verdicts (document 01, section of that name). Limits stay the exact
+//! fractions of the rule, and fractions are compared by cross products.
 
+use crate::limits::{has_limit, limit_by_rule};
 use crate::observation::{Observation, is_sound};
 use crate::refusals::Refusal;
 
@@ -46,30 +47,12 @@ impl Fraction {
     }
 }
 
-/// The class A limit of an order 2..40 in mA.
-fn limit_of(order: u64) -> Fraction {
-    let (numerator, denominator) = match order {
-        2 => (1_080, 1),
-        3 => (2_300, 1),
-        4 => (430, 1),
-        5 => (1_140, 1),
-        6 => (300, 1),
-        7 => (770, 1),
-        9 => (400, 1),
-        11 => (330, 1),
-        13 => (210, 1),
-        _ if order % 2 == 1 => (2_250, order),
-        _ => (1_840, order),
-    };
-    Fraction { numerator, denominator: denominator.into() }
-}
-
 /// The limit in units: the mA figure × K / 1000, and that times `percent` / 100.
 fn limit_in_units(order: u64, scale: u64, percent: i128) -> Fraction {
-    let milliamperes = limit_of(order);
+    let milliamperes = limit_by_rule(order);
     Fraction {
-        numerator: milliamperes.numerator * i128::from(scale) * percent,
-        denominator: milliamperes.denominator * 1_000 * 100,
+        numerator: i128::from(milliamperes.numerator) * i128::from(scale) * percent,
+        denominator: i128::from(milliamperes.denominator) * 1_000 * 100,
     }
 }
 
@@ -94,7 +77,7 @@ pub fn order_verdict(observation: &Observation, question: Question) -> Result<Ve
     if observation.windows == 0 {
         return Err(Refusal::NoWindow);
     }
-    if !(2..=40).contains(&order) {
+    if !has_limit(order) {
         return Err(Refusal::OrderOutOfRange);
     }
     if !(1..=LARGEST_SCALE).contains(&scale) {
