@@ -1,13 +1,14 @@
 //! Compares the proved core, through its C interface, with the second program of `tests/reference`,
 //! call by call: spectra and parts of them, all kinds, orders and systems, distortion, records, windows
-//! back to back, verdicts, columns and listings, on valid and on damaged arguments. Every buffer is compared after every call, refused
-//! ones too; the numbers that the wrappers' names stand for are compared with figures first. With the
-//! path of the built `harmlist` as its argument it compares that program instead, byte for byte. The
-//! seed is fixed, so that a run can be repeated.
+//! back to back, limits, verdicts, columns and listings, on valid and on damaged arguments. Every buffer
+//! is compared after every call, refused ones too; the numbers that the wrappers' names stand for are
+//! compared with figures first. With the path of the built `harmlist` as its argument it compares that
+//! program instead, byte for byte. The seed is fixed, so that a run can be repeated.
 
 mod columns;
 mod examples;
 mod harmlist;
+mod limits;
 mod names;
 mod observations;
 mod records;
@@ -50,6 +51,7 @@ fn main() {
             names::compare();
             windows::compare(&mut tally, SEED);
             records::compare(&mut tally, SEED);
+            limits::compare(&mut tally);
             observations::compare(&mut tally, SEED);
             columns::compare(&mut tally, SEED);
             examples::compare(&mut tally);

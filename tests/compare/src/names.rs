@@ -46,6 +46,8 @@ pub fn compare() {
         MOST_WINDOWS 45000
         COLUMN_WIDTH 8
         LISTING_ROOM 1640
+        SMOOTHED_MARGIN 12
+        PEAK_PERCENT 150
         SYSTEM_PLACE 0
         WINDOWS_PLACE 1
         SMOOTHED_PLACE 2
