@@ -1,6 +1,7 @@
-/* Every name of include/kifsang.h that stands for a number, with its figure; and the kinds and places
- * by name, on calls whose answers document 01 has in figures. With an argument it prints the names
- * instead, a line for each, so that they can be compared with those of the header. */
+/* Every name of include/kifsang.h that stands for a number, with its figure; and the kinds, the places,
+ * the margin and the peak's per cent by name, on calls whose answers document 01 has in figures. With an
+ * argument it prints the names instead, a line for each, so that they can be compared with those of the
+ * header. */
 #include "kifsang.h"
 
 #include <inttypes.h>
@@ -25,6 +26,8 @@ static const struct {
     NAME(KIFSANG_MOST_WINDOWS, 45000),
     NAME(KIFSANG_COLUMN_WIDTH, 8),
     NAME(KIFSANG_LISTING_ROOM, 1640),
+    NAME(KIFSANG_SMOOTHED_MARGIN, 12),
+    NAME(KIFSANG_PEAK_PERCENT, 150),
 
     NAME(KIFSANG_SYSTEM_PLACE, 0),
     NAME(KIFSANG_WINDOWS_PLACE, 1),
@@ -112,6 +115,40 @@ static void try_places(void)
     same("the peak of a record", record[KIFSANG_PEAK_PLACE], 8944);
 }
 
+/* The verdict on order 3 with 1,000,000 units per ampere, of a record whose sum and peak are the value. */
+static uint32_t verdict_of(uint64_t windows, uint64_t value)
+{
+    uint64_t record[122];
+    uint32_t verdict = 0;
+    same("the refusal of a fresh record", kifsang_fresh_record(10, record, 122), 0);
+    record[KIFSANG_WINDOWS_PLACE] = windows;
+    record[KIFSANG_SUM_PLACE + 2] = value;
+    record[KIFSANG_PEAK_PLACE + 2] = value;
+    same("the refusal of a verdict", kifsang_verdict(record, 122, 3, 1000000, &verdict), 0);
+    return verdict;
+}
+
+/* Where the verdict changes about the limit of 2300 mA. The average of one window is the value, and
+ * decides; that of two is half the value, and the peak decides. */
+static void try_bounds(void)
+{
+    static const struct {
+        const char *what;
+        uint64_t windows, limit;
+    } tests[] = {
+        {"the verdict by the average", 1, 2300000},
+        {"the verdict by the peak", 2, 23000 * KIFSANG_PEAK_PERCENT},
+    };
+    for (size_t i = 0; i < COUNT_OF(tests); i++) {
+        uint64_t last_within = tests[i].limit - KIFSANG_SMOOTHED_MARGIN;
+        uint64_t last_close = tests[i].limit + KIFSANG_SMOOTHED_MARGIN;
+        same(tests[i].what, verdict_of(tests[i].windows, last_within), KIFSANG_WITHIN);
+        same(tests[i].what, verdict_of(tests[i].windows, last_within + 1), KIFSANG_CLOSE);
+        same(tests[i].what, verdict_of(tests[i].windows, last_close), KIFSANG_CLOSE);
+        same(tests[i].what, verdict_of(tests[i].windows, last_close + 1), KIFSANG_OVER);
+    }
+}
+
 int main(int argument_count, char **arguments)
 {
     (void)arguments;
@@ -124,6 +161,7 @@ int main(int argument_count, char **arguments)
         same(names[i].name, names[i].number, names[i].figure);
     try_kinds();
     try_places();
+    try_bounds();
     printf("%lu names of the header, all with their figures\n", (unsigned long)COUNT_OF(names));
     return 0;
 }

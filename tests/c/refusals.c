@@ -19,7 +19,7 @@ struct arguments {
     uint64_t recording_length, start, windows, first, line_count, value_count, record_words, text_length;
     uint64_t group_count, subgroup_count, smoothed_count, buffer_length;
     int64_t number;
-    uint64_t value, parts_per_thousand, written;
+    uint64_t value, parts_per_thousand, numerator, denominator, written;
     uint32_t verdict;
     int32_t recording[6200];
     uint64_t lines[520], record[130];
@@ -71,6 +71,11 @@ struct fault {
     LINE_COUNT_FAULTS, \
     FAULT(5, uint64_t, lines[0], 576460752303423489), \
     FAULT(5, uint64_t, lines[510], UINT64_MAX)
+#define LIMIT_FAULTS \
+    FAULT(6, uint32_t, order, 0), \
+    FAULT(6, uint32_t, order, 1), \
+    FAULT(6, uint32_t, order, 41), \
+    FAULT(6, uint32_t, order, UINT32_MAX)
 
 struct call {
     const char *name;
@@ -198,6 +203,15 @@ static const struct fault observe_faults[] = {
     FAULT(2, uint64_t, windows, UINT64_MAX),
 };
 
+static uint32_t limit(struct arguments *a)
+{
+    return kifsang_limit(a->order, &a->numerator, &a->denominator);
+}
+
+static const struct fault limit_faults[] = {
+    LIMIT_FAULTS,
+};
+
 static uint32_t verdict(struct arguments *a)
 {
     return kifsang_verdict(a->record, a->record_words, a->order, a->units_per_ampere, &a->verdict);
@@ -211,9 +225,7 @@ static const struct fault verdict_faults[] = {
     FAULT(7, uint64_t, record[42], UINT64_MAX),
     FAULT(7, uint64_t, record[121], 4294967296),
     {10, "a fresh record", offsetof(struct arguments, record), sizeof fresh, fresh},
-    FAULT(6, uint32_t, order, 0),
-    FAULT(6, uint32_t, order, 1),
-    FAULT(6, uint32_t, order, 41),
+    LIMIT_FAULTS,
     FAULT(11, uint32_t, units_per_ampere, 0),
     FAULT(11, uint32_t, units_per_ampere, 268435457),
 };
@@ -270,8 +282,19 @@ static const struct fault fill_listing_faults[] = {
 #define CALL(name) {#name, name, name##_faults, COUNT_OF(name##_faults)}
 
 static const struct call calls[] = {
-    CALL(spectrum), CALL(lines_from), CALL(group_value), CALL(row),          CALL(distortion),   CALL(fresh_record),
-    CALL(add_row),  CALL(observe),    CALL(verdict),     CALL(read_column),  CALL(write_column), CALL(fill_listing),
+    CALL(spectrum),
+    CALL(lines_from),
+    CALL(group_value),
+    CALL(row),
+    CALL(distortion),
+    CALL(fresh_record),
+    CALL(add_row),
+    CALL(observe),
+    CALL(limit),
+    CALL(verdict),
+    CALL(read_column),
+    CALL(write_column),
+    CALL(fill_listing),
 };
 
 static unsigned long tried;

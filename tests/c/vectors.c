@@ -197,6 +197,15 @@ static void on_record(void)
     memcpy(expected_record, number, sizeof record);
 }
 
+static void on_limit(void)
+{
+    uint64_t numerator = BEFORE, denominator = BEFORE;
+    uint32_t refusal = kifsang_limit((uint32_t)number[0], &numerator, &denominator);
+    same("limit", refusal, number[1]);
+    same_answer("numerator of a limit", numerator, refusal, number[2]);
+    same_answer("denominator of a limit", denominator, refusal, number[3]);
+}
+
 static void on_verdict(void)
 {
     uint32_t verdict = BEFORE;
@@ -262,6 +271,7 @@ static const struct {
     {"add_row", on_add_row},
     {"observe", on_observe},
     {"record", on_record},
+    {"limit", on_limit},
     {"verdict", on_verdict},
     {"read_column", on_read_column},
     {"write_column", on_write_column},
