@@ -1,6 +1,8 @@
 /* Every refusal of the C interface: each fault of each call alone, and each two together, where the
  * number must be that of the one which the header lists first. The numbers stand here in figures. The 9
- * of kifsang_observe needs 45,001 windows, and stands in tests/c/longest.c.
+ * of kifsang_observe needs 45,001 windows, and stands in tests/c/longest.c. With an argument it prints
+ * each call and the numbers of its faults in order instead, a line for each call, so that they can be
+ * compared with docs/REFUSALS.md.
  *
  * All that a call is lent stands in one struct, where no word of a result is 0 and every buffer is
  * longer than the length that is told; a refused call must leave the whole struct as it was. */
@@ -404,8 +406,24 @@ static void try_none(void)
     }
 }
 
-int main(void)
+/* Each call and the numbers of its faults in order. */
+static void list(void)
 {
+    for (size_t i = 0; i < COUNT_OF(calls); i++) {
+        fputs(calls[i].name, stdout);
+        for (size_t fault = 0; fault < calls[i].fault_count; fault++)
+            printf(" %lu", (unsigned long)calls[i].faults[fault].number);
+        puts("");
+    }
+}
+
+int main(int argument_count, char **arguments)
+{
+    (void)arguments;
+    if (argument_count > 1) {
+        list();
+        return 0;
+    }
     for (size_t i = 0; i < COUNT_OF(calls); i++)
         try_call(&calls[i], FILL);
     /* A caller that zeroes its verdict and looks at no refusal reads 0, which is none of the three. */
