@@ -30,8 +30,10 @@ use Rattle.observation.specs.BookCalls.{accepts, EachAccepted, bookCall, bookAf
 use Rattle.verdict.specs.declared.Verdict.{Verdict}
 use Rattle.verdict.specs.declared.Verdict.the-variants.{Within, Close, Over}
 use Rattle.verdict.specs.Question.{asked}
-use Rattle.verdict.specs.Limit.{ownFigures, figureIn, limitOf, overOrder, limitInUnits, peakLimitInUnits}
-use Rattle.verdict.specs.Tests.{parts, raised, atMost, isWithin, isOver}
+use Rattle.limits.specs.Limit.{ownFigures, figureIn, limitOf, overOrder}
+use Rattle.verdict.specs.Limit.{limitInUnits, peakLimitInUnits}
+use Rattle.fractions.specs.Parts.{parts, raised, atMost}
+use Rattle.verdict.specs.Tests.{isWithin, isOver}
 use Rattle.verdict.specs.Call.{combined, verdictOf}
 use Rattle.observation.specs.Average.{averageOf, peakOf}
 use Rattle.accuracy.specs.Distance.{EveryOrder, InRange, valueOf}

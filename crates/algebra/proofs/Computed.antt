@@ -20,11 +20,11 @@ squares numbers = allPass (λ k entry. eqb entry (k * k)) numbers
 squares-worked : (squares (0 ∷ 1 ∷ 4 ∷ 9 ∷ []) ≡ true) × (squares (1 ∷ 1 ∷ 4 ∷ 9 ∷ []) ≡ false) × (squares (0 ∷ 1 ∷ 3 ∷ 9 ∷ []) ≡ false) × (squares (0 ∷ 1 ∷ 4 ∷ 8 ∷ []) ≡ false)
 squares-worked = (refl, refl, refl, refl)
 
-and-left : (a b : Bool) → T (a && b) → T a
+pub and-left : (a b : Bool) → T (a && b) → T a
 and-left true b t = tt
 and-left false b t = t
 
-and-right : (a b : Bool) → T (a && b) → T b
+pub and-right : (a b : Bool) → T (a && b) → T b
 and-right true b t = t
 and-right false b t = absurd t
 

@@ -9,7 +9,7 @@ use native.Mathlib.Bridge.{le-prop}
 use native.Mathlib.Nat.{le-refl, le-of-lt, le-of-suc-le-suc, mul-le-mul, mul-le-mul-left, mul-le-mul-right, le-of-mul-le-mul-right}
 use native.Mathlib.Omega.{arith, by-contra}
 use lib.Dec.{T, leb, leb→le, nleb→lt, lit<, lit≤}
-use Rattle.algebra.specs.Fraction.{Fraction, whole, _≤ᶠ_, _<ᶠ_, _+ᶠ_, times, divide, square, maximum, mix, Side, lower, upper, Within, Near, RootBound, SquareWithin}
+use Rattle.algebra.specs.Fraction.{Fraction, whole, _≤ᶠ_, _<ᶠ_, _≈ᶠ_, _+ᶠ_, times, divide, square, maximum, mix, Side, lower, upper, Within, Near, RootBound, SquareWithin}
 use Rattle.algebra.specs.Rounding.{nearest}
 use Rattle.algebra.proofs.Rounding.{nearest-is}
 
@@ -72,6 +72,16 @@ square-le-cancel a b h = by-contra a b λ l. omega (arith, mul-le-mul l l)
 pub square-≤ᶠ-cancel : (p q : Fraction) → square p ≤ᶠ square q → p ≤ᶠ q
 unfolding square
 square-≤ᶠ-cancel p q h = square-le-cancel (p .num * q .den) (q .num * p .den) (omega arith)
+
+-- ---- equal fractions
+
+pub ≈ᶠ-times : (k : ℕ) (p q : Fraction) → p ≈ᶠ q → times k p ≈ᶠ times k q
+unfolding times
+≈ᶠ-times k p q equal = omega (arith, ap (λ n. k * n) equal)
+
+pub ≈ᶠ-divide : (p q : Fraction) (n : ℕ) (positive : 0 < n) → p ≈ᶠ q → divide p n positive ≈ᶠ divide q n positive
+unfolding divide
+≈ᶠ-divide p q n positive equal = omega (arith, ap (λ product. n * product) equal)
 
 -- ---- the maximum
 

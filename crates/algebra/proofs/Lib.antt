@@ -12,4 +12,5 @@ pub mod Largest
 pub mod Computed
 pub mod Rounding
 pub mod Fraction
+pub mod LowestTerms
 pub mod Signed64

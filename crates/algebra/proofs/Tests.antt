@@ -3,11 +3,11 @@ use mathlib.Core.Path.{_≡_, refl, sym, _∙_}
 use mathlib.Core.Logic.{_⊎_, inl, inr}
 use mathlib.Core.Bool.{Bool, true, false, true≢false, _&&_, and-true, and-assoc}
 use mathlib.Core.List.{List, [], _∷_}
-use Prim.Native.Nat.{ℕ, zero, suc, _<_}
-use native.Mathlib.Decide.{decLt}
+use Prim.Native.Nat.{ℕ, zero, suc, _≤_, _<_}
+use native.Mathlib.Decide.{decLe}
 use native.Mathlib.Omega.{arith}
-use borrow.Author.Tests.{lt-ltb, le-ltb}
-use lib.Dec.{ltb}
+use borrow.Author.Tests.{le-leb, lt-leb}
+use lib.Dec.{leb, ltb}
 use lib.ListN.{getD}
 use Rattle.algebra.specs.Lists.{allTrue}
 
@@ -44,11 +44,14 @@ tests-worked : (allTrue [] ≡ true) × (allTrue (true ∷ true ∷ true ∷ [])
 tests-worked = (refl, refl, refl, refl, refl)
 
 -- two tests that follow from each other are the same
-pub ltb-same : (a b c d : ℕ) → (a < b → c < d) → (c < d → a < b) → ltb a b ≡ ltb c d
-ltb-same a b c d forth back = by-test (decLt a b)
+pub leb-same : (a b c d : ℕ) → (a ≤ b → c ≤ d) → (c ≤ d → a ≤ b) → leb a b ≡ leb c d
+leb-same a b c d forth back = by-test (decLe a b)
   where
-    by-test : Dec (a < b) → ltb a b ≡ ltb c d
-    by-test (yes h) = lt-ltb a b h ∙ sym (lt-ltb c d (forth h))
+    by-test : Dec (a ≤ b) → leb a b ≡ leb c d
+    by-test (yes h) = le-leb a b h ∙ sym (le-leb c d (forth h))
     by-test (no f) =
-        let not-below : c < d → ⊥ = λ l. f (back l) in
-        le-ltb a b (omega arith) ∙ sym (le-ltb c d (omega arith))
+        let above : c ≤ d → ⊥ = λ l. f (back l) in
+        lt-leb a b (omega arith) ∙ sym (lt-leb c d (omega arith))
+
+pub ltb-same : (a b c d : ℕ) → (a < b → c < d) → (c < d → a < b) → ltb a b ≡ ltb c d
+ltb-same a b c d = leb-same (suc a) b (suc c) d

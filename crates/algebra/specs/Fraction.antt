@@ -1,6 +1,7 @@
 -- The fractions of document 01 that are not below 0: a whole number over one above 0, compared by cross products.
 -- Document 01 also writes value − 12; a comparison with it is stated with the 12 on the other side, so that no sign is needed.
 use mathlib.Core.Bool.{cond}
+use mathlib.Core.Path.{_≡_}
 use Prim.Native.Nat.{ℕ, _+_, _-_, _*_, _≤_, _<_}
 use native.Mathlib.Nat.{mul-pos}
 use native.Mathlib.Omega.{arith}
@@ -24,6 +25,11 @@ infix 4 _<ᶠ_
 -- p is below q
 abbrev pub _<ᶠ_ : Fraction → Fraction → Type 0
 p <ᶠ q = p .num * q .den < q .num * p .den
+
+infix 4 _≈ᶠ_
+-- p and q are equal
+abbrev pub _≈ᶠ_ : Fraction → Fraction → Type 0
+p ≈ᶠ q = p .num * q .den ≡ q .num * p .den
 
 infixl 6 _+ᶠ_
 unfoldable pub _+ᶠ_ : Fraction → Fraction → Fraction

@@ -2,6 +2,7 @@
 pub mod Integers
 pub mod Rounding
 pub mod Fraction
+pub mod LowestTerms
 pub mod Sums
 pub mod Weighted
 pub mod Lists

@@ -1,5 +1,4 @@
 -- The theorems of class A verdicts.
 pub mod Worked
 pub mod Limits
-pub mod Raised
 pub mod Verdicts

@@ -1,55 +1,83 @@
--- How large the parts of a limit are, for every order: a figure over at most the order.
-use mathlib.Core.Bool.{Bool, true, false, cond}
-use Prim.Native.Nat.{ℕ, _%_, _*_, _^_, max, _≤_}
-use native.Mathlib.Nat.{mul-le-mul}
+-- A limit from the table in place of document 01's: equal fractions are tested alike, so that no verdict differs.
+use mathlib.Core.Path.{_≡_, ap}
+use mathlib.Core.Bool.{true, not}
+use Prim.Native.Nat.{ℕ, _*_, _^_, _≤_}
+use native.Mathlib.Nat.{mul-le-mul, mul-le-mul-left}
 use native.Mathlib.Omega.{arith}
-use lib.Dec.{eqb}
 use mir.Syntax.{w32}
 use mir.Val.{Fits}
-use Rattle.algebra.specs.Fraction.{Fraction, whole, times, divide}
+use Rattle.algebra.specs.Fraction.{Fraction, times, divide, _≈ᶠ_}
+use Rattle.algebra.specs.LowestTerms.{lowestTerms}
+use Rattle.algebra.proofs.Fraction.{≈ᶠ-times, ≈ᶠ-divide}
+use Rattle.algebra.proofs.LowestTerms.{lowestTerms-≈ᶠ}
+use Rattle.observation.specs.Smoothing.{smoothedMargin}
+use Rattle.fractions.specs.declared.Fraction.{Fraction as Held}
+use Rattle.fractions.specs.Parts.{parts}
+use Rattle.fractions.proofs.Parts.{Same, parts-same, raised-same, atMost-same}
+use Rattle.limits.specs.Limit.{hasLimit, limitOf}
+use Rattle.limits.proofs.Limits.{largestNumerator, largestDenominator, limit-num-le, limit-den-le}
 use Rattle.verdict.specs.declared.Question.{Question}
-use Rattle.verdict.specs.Limit.{ownFigures, oddFigure, evenFigure, overOrder, figureIn, limitOf, milliamperes, limitInUnits}
+use Rattle.verdict.specs.Limit.{milliamperes, inUnits, threeHalves, limitInUnits, peakLimitInUnits}
+use Rattle.verdict.specs.Tests.{isWithin, isOver}
+use Rattle.verdict.specs.Call.{combined}
 
--- the largest numerator of a limit in milliamperes
-abbrev pub largestFigure : ℕ
-largestFigure = 2300
+-- ---- equal limits
 
-pub record LimitBounds (order : ℕ) (p : Fraction) : Type 0 where
-  pub num-le : p .num ≤ largestFigure
-  pub den-le : p .den ≤ max order 1
+inUnits-≈ᶠ : (scale : ℕ) (p q : Fraction) → p ≈ᶠ q → inUnits scale p ≈ᶠ inUnits scale q
+inUnits-≈ᶠ scale p q equal = ≈ᶠ-divide (times scale p) (times scale q) milliamperes _ (≈ᶠ-times scale p q equal)
 
-module _ (order : ℕ) where
-  -- of two limits, by a test
-  either : (test : Bool) {p q : Fraction} → LimitBounds order p → LimitBounds order q → LimitBounds order (cond test p q)
-  either true p q = p
-  either false p q = q
+threeHalves-≈ᶠ : (p q : Fraction) → p ≈ᶠ q → threeHalves p ≈ᶠ threeHalves q
+threeHalves-≈ᶠ p q equal = ≈ᶠ-divide (times 3 p) (times 3 q) 2 _ (≈ᶠ-times 3 p q equal)
 
-  own : (figure : ℕ) → figure ≤ largestFigure → LimitBounds order (whole figure)
-  unfolding whole
-  own figure small = record { num-le = small; den-le = omega arith }
+-- ---- equal limits are tested alike
 
-  over : (figure : ℕ) → figure ≤ largestFigure → LimitBounds order (overOrder figure order)
-  unfolding overOrder
-  over figure small = record { num-le = small; den-le = omega arith }
+isWithin-same : (value p q : Held) → Same p q → isWithin value p ≡ isWithin value q
+unfolding isWithin
+isWithin-same value p q same = atMost-same _ p q same
 
-  pub limitOf-bounds : LimitBounds order (limitOf order)
-  unfolding limitOf figureIn ownFigures
-  limitOf-bounds =
-      figure 2 1080 (omega arith) (figure 3 2300 (omega arith) (figure 4 430 (omega arith)
-      (figure 5 1140 (omega arith) (figure 6 300 (omega arith) (figure 7 770 (omega arith)
-      (figure 9 400 (omega arith) (figure 11 330 (omega arith) (figure 13 210 (omega arith)
-      (either (eqb (order % 2) 0) (over evenFigure (omega arith)) (over oddFigure (omega arith)))))))))))
-    where
-      figure : (at value : ℕ) → value ≤ largestFigure → {rest : Fraction} → LimitBounds order rest → LimitBounds order (cond (eqb at order) (whole value) rest)
-      figure at value small rest = either (eqb at order) (own value small) rest
+isOver-same : (value p q : Held) → Same p q → isOver value p ≡ isOver value q
+unfolding isOver
+isOver-same value p q same = ap not (atMost-same value _ _ (raised-same p q smoothedMargin same))
 
--- the same of a limit in units, where the order and K have 32 bits
-pub limitInUnits-num-le : (q : Question) → Fits w32 (q .scale) → limitInUnits q .num ≤ 2 ^ 32 * largestFigure
-unfolding limitInUnits times divide
-limitInUnits-num-le q scale-fits =
+combined-same :
+    (average limit otherLimit peak peakLimit otherPeakLimit : Held) (order : ℕ) →
+    Same limit otherLimit → Same peakLimit otherPeakLimit →
+    combined average limit peak peakLimit order ≡ combined average otherLimit peak otherPeakLimit order
+unfolding combined
+combined-same average limit otherLimit peak peakLimit otherPeakLimit order same same-peak =
+    rw (
+      isOver-same average limit otherLimit same,
+      isOver-same peak peakLimit otherPeakLimit same-peak,
+      isWithin-same average limit otherLimit same,
+      isWithin-same peak peakLimit otherPeakLimit same-peak,
+    )
+
+-- ---- the table's limit
+
+-- the limit in units that the code works with
+abbrev pub listedInUnits : Question → Fraction
+listedInUnits q = inUnits (q .scale) (lowestTerms (limitOf (q .order)))
+
+-- its parts are small enough for 64 bits, and so are three times and twice as much
+pub listedInUnits-num-le : (q : Question) → hasLimit (q .order) ≡ true → Fits w32 (q .scale) → listedInUnits q .num ≤ 2 ^ 32 * largestNumerator
+unfolding times divide
+listedInUnits-num-le q has-limit fits =
     let scale-le : q .scale ≤ 2 ^ 32 = omega arith in
-    mul-le-mul scale-le (limitOf-bounds (q .order) .num-le)
+    mul-le-mul scale-le (limit-num-le (q .order) has-limit)
 
-pub limitInUnits-den-le : (q : Question) → Fits w32 (q .order) → limitInUnits q .den ≤ milliamperes * 2 ^ 32
-unfolding limitInUnits times divide
-limitInUnits-den-le q order-fits = let bounds = limitOf-bounds (q .order) in omega arith
+pub listedInUnits-den-le : (q : Question) → hasLimit (q .order) ≡ true → listedInUnits q .den ≤ milliamperes * largestDenominator
+unfolding times divide
+listedInUnits-den-le q has-limit = mul-le-mul-left milliamperes (limit-den-le (q .order) has-limit)
+
+-- in its place document 01's limit gives the same verdict
+pub combined-listed :
+    (q : Question) (average peak : Held) →
+    combined average (parts (listedInUnits q)) peak (parts (threeHalves (listedInUnits q))) (q .order)
+    ≡ combined average (parts (limitInUnits q)) peak (parts (peakLimitInUnits q)) (q .order)
+unfolding limitInUnits peakLimitInUnits
+combined-listed q average peak =
+    let limit = inUnits (q .scale) (limitOf (q .order)) in
+    let equal = inUnits-≈ᶠ (q .scale) (lowestTerms (limitOf (q .order))) (limitOf (q .order)) (lowestTerms-≈ᶠ (limitOf (q .order))) in
+    combined-same average _ _ peak _ _ (q .order)
+    (parts-same (listedInUnits q) limit equal)
+    (parts-same (threeHalves (listedInUnits q)) (threeHalves limit) (threeHalves-≈ᶠ (listedInUnits q) limit equal))

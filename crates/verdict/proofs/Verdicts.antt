@@ -15,14 +15,17 @@ use Rattle.observation.specs.declared.Observation.{Observation}
 use Rattle.observation.specs.Soundness.{isSound}
 use Rattle.observation.specs.Smoothing.{smoothedMargin}
 use Rattle.observation.specs.Average.{averageOf, peakOf}
-use Rattle.verdict.specs.declared.tests.Fraction.{Fraction as Held}
+use Rattle.fractions.specs.declared.Fraction.{Fraction as Held}
+use Rattle.fractions.specs.Parts.{parts, raised, atMost}
+use Rattle.limits.specs.Limit.{firstLimited, hasLimit}
+use Rattle.limits.proofs.Limits.{limited-ge, limited-le}
 use Rattle.verdict.specs.declared.Question.{Question}
 use Rattle.verdict.specs.declared.Verdict.{Verdict}
 use Rattle.verdict.specs.declared.Verdict.the-variants.{Within, Close, Over}
 use Rattle.verdict.specs.declared.VerdictAnswer.the-variants.{Given}
-use Rattle.verdict.specs.Question.{firstJudged, largestScale}
+use Rattle.verdict.specs.Question.{largestScale}
 use Rattle.verdict.specs.Limit.{limitInUnits, peakLimitInUnits}
-use Rattle.verdict.specs.Tests.{parts, raised, atMost, isWithin, isOver, Touches}
+use Rattle.verdict.specs.Tests.{isWithin, isOver, Touches}
 use Rattle.verdict.specs.Call.{combined, verdictOf, verdictChecks, verdictRefusal, verdictAnswer, orderNumber}
 
 -- ---- a call that is not refused
@@ -30,7 +33,8 @@ use Rattle.verdict.specs.Call.{combined, verdictOf, verdictChecks, verdi
 pub record Accepted (o : Observation) (q : Question) : Type 0 where
   pub sound : isSound o ≡ true
   pub some-window : 0 < o .windows
-  pub order-ge : firstJudged ≤ q .order
+  pub has-limit : hasLimit (q .order) ≡ true
+  pub order-ge : firstLimited ≤ q .order
   pub order-le : q .order ≤ orderCount
   pub scale-ge : 1 ≤ q .scale
   pub scale-le : q .scale ≤ largestScale
@@ -50,13 +54,14 @@ module _ (o : Observation) (q : Question) (passed : verdictRefusal o q ≡ noRef
   accepted =
       let no-fault = no-faults (verdictChecks o q) refl passed in
       let some = eqb-false (o .windows) 0 (no-fault noWindow) in
-      let orders = inside firstJudged (q .order) orderCount (no-fault orderOutOfRange) in
+      let limited : hasLimit (q .order) ≡ true = not-false _ (no-fault orderOutOfRange) in
       let scales = inside 1 (q .scale) largestScale (no-fault scaleOutOfRange) in
       record {
         sound = not-false _ (no-fault unsoundRecord);
         some-window = omega arith;
-        order-ge = orders .0;
-        order-le = orders .1;
+        has-limit = limited;
+        order-ge = limited-ge (q .order) limited;
+        order-le = limited-le (q .order) limited;
         scale-ge = scales .0;
         scale-le = scales .1;
       }

@@ -1,5 +1,5 @@
--- The worked numbers of the limits, of the verdicts (document 01, case •9, the edges, and each two neighbouring
--- refusals in one call) and of their cases, each a table of rows and one computed theorem over it.
+-- The worked numbers of the verdicts (document 01, case •9, the edges, and each two neighbouring refusals in one
+-- call) and of their cases, each a table of rows and one computed theorem over it.
 use mathlib.Core.Path.{_≡_, refl}
 use mathlib.Core.List.{List, [], _∷_, map}
 use Prim.Native.Nat.{ℕ, _-_}
@@ -16,59 +16,11 @@ use Rattle.verdict.specs.declared.Verdict.the-variants.{Within, Close, O
 use Rattle.verdict.specs.declared.VerdictAnswer.{VerdictAnswer}
 use Rattle.verdict.specs.declared.VerdictAnswer.the-variants.{Given, Refused}
 use Rattle.verdict.specs.Question.{asked}
-use Rattle.verdict.specs.Limit.{ownFigures, overOrder, figureIn, limitOf, limitInUnits, peakLimitInUnits}
-use Rattle.verdict.specs.Tests.{raised, atMost, isWithin, isOver}
+use Rattle.fractions.specs.Parts.{raised, atMost}
+use Rattle.limits.specs.Limit.{ownFigures, overOrder, figureIn, limitOf}
+use Rattle.verdict.specs.Limit.{limitInUnits, peakLimitInUnits}
+use Rattle.verdict.specs.Tests.{isWithin, isOver}
 use Rattle.verdict.specs.Call.{combined, verdictOf, verdictRefusal, verdictAnswer, refusalNumber, orderNumber}
-
--- ---- the limits
-
--- an order, and its limit in milliamperes as a numerator over a denominator
-limitCases : List (ℕ × ℕ × ℕ)
-limitCases =
-    (2, 1080, 1) ∷
-    (3, 2300, 1) ∷
-    (4, 430, 1) ∷
-    (5, 1140, 1) ∷
-    (6, 300, 1) ∷
-    (7, 770, 1) ∷
-    (8, 1840, 8) ∷
-    (9, 400, 1) ∷
-    (10, 1840, 10) ∷
-    (11, 330, 1) ∷
-    (12, 1840, 12) ∷
-    (13, 210, 1) ∷
-    (14, 1840, 14) ∷
-    (15, 2250, 15) ∷
-    (16, 1840, 16) ∷
-    (17, 2250, 17) ∷
-    (18, 1840, 18) ∷
-    (19, 2250, 19) ∷
-    (20, 1840, 20) ∷
-    (21, 2250, 21) ∷
-    (22, 1840, 22) ∷
-    (23, 2250, 23) ∷
-    (24, 1840, 24) ∷
-    (25, 2250, 25) ∷
-    (26, 1840, 26) ∷
-    (27, 2250, 27) ∷
-    (28, 1840, 28) ∷
-    (29, 2250, 29) ∷
-    (30, 1840, 30) ∷
-    (31, 2250, 31) ∷
-    (32, 1840, 32) ∷
-    (33, 2250, 33) ∷
-    (34, 1840, 34) ∷
-    (35, 2250, 35) ∷
-    (36, 1840, 36) ∷
-    (37, 2250, 37) ∷
-    (38, 1840, 38) ∷
-    (39, 2250, 39) ∷
-    (40, 1840, 40) ∷
-    []
-
-limits-worked : map (λ row. (row .0, limitOf (row .0) .num, limitOf (row .0) .den)) limitCases ≡ limitCases
-unfolding limitCases limitOf figureIn ownFigures overOrder whole
-limits-worked = refl
 
 -- ---- the verdicts
 

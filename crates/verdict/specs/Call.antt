@@ -3,20 +3,22 @@ use mathlib.Core.Bool.{Bool, cond, not, _&&_, _||_}
 use mathlib.Core.List.{List, [], _∷_}
 use Prim.Native.Nat.{ℕ}
 use lib.Dec.{eqb}
-use Rattle.refusals.specs.Numbers.{noRefusal, unsoundRecord, noWindow, orderOutOfRange, scaleOutOfRange}
+use Rattle.refusals.specs.Numbers.{noRefusal, unsoundRecord, noWindow, scaleOutOfRange}
 use Rattle.refusals.specs.Answers.{firstFault, unlessRefused}
 use Rattle.observation.specs.declared.Observation.{Observation}
 use Rattle.observation.specs.Soundness.{isSound}
 use Rattle.observation.specs.Average.{averageOf, peakOf}
-use Rattle.verdict.specs.declared.tests.Fraction.{Fraction as Held}
+use Rattle.fractions.specs.declared.Fraction.{Fraction as Held}
+use Rattle.fractions.specs.Parts.{parts}
+use Rattle.limits.specs.Call.{limitedOrderCheck}
 use Rattle.verdict.specs.declared.Question.{Question}
 use Rattle.verdict.specs.declared.Verdict.{Verdict}
 use Rattle.verdict.specs.declared.Verdict.the-variants.{Within, Close, Over}
 use Rattle.verdict.specs.declared.VerdictAnswer.{VerdictAnswer}
 use Rattle.verdict.specs.declared.VerdictAnswer.the-variants.{Given, Refused}
-use Rattle.verdict.specs.Question.{isJudged, isScale}
+use Rattle.verdict.specs.Question.{isScale}
 use Rattle.verdict.specs.Limit.{limitInUnits, peakLimitInUnits}
-use Rattle.verdict.specs.Tests.{parts, isWithin, isOver}
+use Rattle.verdict.specs.Tests.{isWithin, isOver}
 
 -- "over if either test is, within if both are, else close", each case with the order
 unfoldable pub combined : Held → Held → Held → Held → ℕ → Verdict
@@ -39,7 +41,7 @@ abbrev pub verdictChecks : Observation → Question → List (Bool × ℕ)
 verdictChecks o q =
     (not (isSound o), unsoundRecord) ∷
     (eqb (o .windows) 0, noWindow) ∷
-    (not (isJudged (q .order)), orderOutOfRange) ∷
+    limitedOrderCheck (q .order) ∷
     (not (isScale (q .scale)), scaleOutOfRange) ∷
     []
 

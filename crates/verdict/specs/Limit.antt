@@ -1,45 +1,24 @@
--- The limits of class A (document 01, "Class A verdicts"). The one place that knows a milliampere figure.
-use mathlib.Core.Bool.{cond}
-use mathlib.Core.List.{List, [], _∷_}
-use Prim.Native.Nat.{ℕ, _%_, max}
+-- The limits in units of what is asked (document 01, "Class A verdicts").
+use Prim.Native.Nat.{ℕ}
 use native.Mathlib.Omega.{arith}
-use lib.Dec.{eqb}
-use Rattle.algebra.specs.Fraction.{Fraction, whole, times, divide}
+use Rattle.algebra.specs.Fraction.{Fraction, times, divide}
+use Rattle.limits.specs.Limit.{limitOf}
 use Rattle.verdict.specs.declared.Question.{Question}
-
--- the orders with a figure of their own, and that figure in milliamperes
-unfoldable pub ownFigures : List (ℕ × ℕ)
-ownFigures =
-    (2, 1080) ∷ (3, 2300) ∷ (4, 430) ∷ (5, 1140) ∷ (6, 300) ∷ (7, 770) ∷ (9, 400) ∷ (11, 330) ∷ (13, 210) ∷ []
-
--- the other orders: a figure over the order, for odd and for even ones
-abbrev pub oddFigure : ℕ
-oddFigure = 2250
-
-abbrev pub evenFigure : ℕ
-evenFigure = 1840
-
--- a figure over the order h; an order is above 0, and for 0 the fraction is over 1
-unfoldable pub overOrder : ℕ → ℕ → Fraction
-overOrder figure h = record { num = figure; den = max h 1; den-pos = omega arith }
-
--- the figure of the order h in a list, or what stands for it
-unfoldable pub figureIn : List (ℕ × ℕ) → ℕ → Fraction → Fraction
-figureIn [] h other = other
-figureIn (entry ∷ entries) h other = cond (eqb (entry .0) h) (whole (entry .1)) (figureIn entries h other)
-
--- the limit of an order 2..40, in milliamperes
-unfoldable pub limitOf : ℕ → Fraction
-limitOf h = figureIn ownFigures h (cond (eqb (h % 2) 0) (overOrder evenFigure h) (overOrder oddFigure h))
 
 -- milliamperes in an ampere
 abbrev pub milliamperes : ℕ
 milliamperes = 1000
 
 -- "The limit in units is the mA figure × K / 1000"
-unfoldable pub limitInUnits : Question → Fraction
-limitInUnits q = divide (times (q .scale) (limitOf (q .order))) milliamperes (omega arith)
+abbrev pub inUnits : ℕ → Fraction → Fraction
+inUnits scale figure = divide (times scale figure) milliamperes (omega arith)
 
--- 150 % of it, as three halves
+unfoldable pub limitInUnits : Question → Fraction
+limitInUnits q = inUnits (q .scale) (limitOf (q .order))
+
+-- 150 %, as three halves
+abbrev pub threeHalves : Fraction → Fraction
+threeHalves limit = divide (times 3 limit) 2 (omega arith)
+
 unfoldable pub peakLimitInUnits : Question → Fraction
-peakLimitInUnits q = divide (times 3 (limitInUnits q)) 2 (omega arith)
+peakLimitInUnits q = threeHalves (limitInUnits q)

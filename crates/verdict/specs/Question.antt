@@ -2,19 +2,11 @@
 use mathlib.Core.Bool.{Bool, _&&_}
 use Prim.Native.Nat.{ℕ, _^_}
 use lib.Dec.{leb}
-use Rattle.rows.specs.Orders.{orderCount}
 use Rattle.verdict.specs.declared.Question.{Question}
 
 -- a question by its parts
 abbrev pub asked : ℕ → ℕ → Question
 asked order scale = record { order = order; scale = scale }
-
--- the orders 2..40 are judged
-abbrev pub firstJudged : ℕ
-firstJudged = 2
-
-abbrev pub isJudged : ℕ → Bool
-isJudged order = leb firstJudged order && leb order orderCount
 
 -- K is 1..2^28
 abbrev pub largestScale : ℕ

@@ -3,10 +3,11 @@ use crate::Question;
 use crate::Verdict;
 use crate::VerdictAnswer;
 use crate::limit::limit_in_units;
-use crate::limit::peak_limit_in_units;
-use crate::tests::Fraction;
+use crate::limit::three_halves;
 use crate::tests::is_over;
 use crate::tests::is_within;
+use fractions::Fraction;
+use limits::has_limit;
 use observation::Observation;
 use observation::is_sound;
 use refusals::NO_REFUSAL;
@@ -15,15 +16,10 @@ use refusals::ORDER_OUT_OF_RANGE;
 use refusals::SCALE_OUT_OF_RANGE;
 use refusals::UNSOUND_RECORD;
 use refusals::fault_or;
-use rows::ORDER_COUNT;
 ghost use mathlib.Core.Path.{_≡_};
 ghost use Rattle.refusals.specs.Numbers.{noRefusal};
 ghost use Rattle.verdict.specs.Call.{combined, verdictOf, verdictRefusal, verdictAnswer, refusalNumber};
 
-// The first order that is judged.
-const FIRST_JUDGED: u32 = 2;
-// The last one.
-const LAST_JUDGED: u32 = ORDER_COUNT as u32;
 // The largest number of units per ampere.
 const LARGEST_SCALE: u32 = 1 << 28;
 
@@ -38,7 +34,7 @@ fn verdict_refusal(observation: Observation, question: Question) -> u32
             observation.windows == 0,
             NO_WINDOW,
             fault_or(
-                !((FIRST_JUDGED <= question.order) & (question.order <= LAST_JUDGED)),
+                !has_limit(question.order),
                 ORDER_OUT_OF_RANGE,
                 fault_or(
                     !((1 <= question.scale) & (question.scale <= LARGEST_SCALE)),
@@ -85,7 +81,7 @@ fn verdict_of(observation: Observation, question: Question) -> Verdict
         denominator: 1,
     };
     let limit = limit_in_units(question);
-    let peak_limit = peak_limit_in_units(question);
+    let peak_limit = three_halves(limit);
     combined(average, limit, peak, peak_limit, order)
 }
 

@@ -1,69 +1,35 @@
-// The class A limits as exact fractions. The one place of the code that knows a milliampere figure.
+// The limits in units of what is asked.
 use crate::Question;
-use crate::tests::Fraction;
+use fractions::Fraction;
+use limits::order_limit;
+ghost use mathlib.Core.Bool.{true};
 ghost use mathlib.Core.Path.{_≡_};
-ghost use Rattle.verdict.specs.Tests.{held, parts};
-ghost use Rattle.verdict.specs.Limit.{limitOf, limitInUnits, peakLimitInUnits};
+ghost use Prim.Native.Nat.{_*_, _^_, _<_};
+ghost use Rattle.algebra.specs.LowestTerms.{lowestTerms};
+ghost use Rattle.fractions.specs.Parts.{held, parts};
+ghost use Rattle.limits.specs.Limit.{hasLimit, limitOf};
+ghost use Rattle.verdict.specs.Limit.{inUnits};
 
-// The figure of the odd orders that have none of their own, over the order.
-const ODD_FIGURE: u64 = 2250;
-// The same of the even orders.
-const EVEN_FIGURE: u64 = 1840;
 // Milliamperes in an ampere.
 const MILLIAMPERES: u64 = 1000;
 
-// A figure over a whole number.
-fn figure_over(figure: u64, number: u32) -> Fraction
-    ensures { λ r. ⌜ r ≡ held figure number ⌝ }
-{
-    Fraction {
-        numerator: figure,
-        denominator: number as u64,
-    }
-}
-
-// The limit of an order in milliamperes; the order 0, which is not judged, is divided by as 1 is. A
-// match holds each figure once, and no table is copied.
-fn limit_of(order: u32) -> Fraction
-    ensures { λ r. ⌜ r ≡ parts (limitOf order) ⌝ }
-{
-    match order {
-        0 => figure_over(EVEN_FIGURE, 1),
-        2 => figure_over(1080, 1),
-        3 => figure_over(2300, 1),
-        4 => figure_over(430, 1),
-        5 => figure_over(1140, 1),
-        6 => figure_over(300, 1),
-        7 => figure_over(770, 1),
-        9 => figure_over(400, 1),
-        11 => figure_over(330, 1),
-        13 => figure_over(210, 1),
-        _ => {
-            if order % 2 == 0 {
-                figure_over(EVEN_FIGURE, order)
-            } else {
-                figure_over(ODD_FIGURE, order)
-            }
-        }
-    }
-}
-
-// The limit in units of what is asked.
+// The limit of the order that is asked for, as the table has it, in units.
 pub(crate) fn limit_in_units(question: Question) -> Fraction
-    ensures { λ r. ⌜ r ≡ parts (limitInUnits question) ⌝ }
+    requires { ⌜ hasLimit (question .order) ≡ true ⌝ }
+    ensures { λ r. ⌜ r ≡ parts (inUnits (question .scale) (lowestTerms (limitOf (question .order)))) ⌝ }
 {
-    let limit = limit_of(question.order);
+    let limit = order_limit(question.order).limit;
     Fraction {
         numerator: question.scale as u64 * limit.numerator,
         denominator: MILLIAMPERES * limit.denominator,
     }
 }
 
-// 150 % of the limit, as three halves.
-pub(crate) fn peak_limit_in_units(question: Question) -> Fraction
-    ensures { λ r. ⌜ r ≡ parts (peakLimitInUnits question) ⌝ }
+// 150 % of a limit, as three halves.
+pub(crate) fn three_halves(limit: Fraction) -> Fraction
+    requires { ⌜ (3 * limit .numerator < 2 ^ 64) × (2 * limit .denominator < 2 ^ 64) ⌝ }
+    ensures { λ r. ⌜ r ≡ held (3 * limit .numerator) (2 * limit .denominator) ⌝ }
 {
-    let limit = limit_in_units(question);
     Fraction {
         numerator: 3 * limit.numerator,
         denominator: 2 * limit.denominator,

@@ -12,6 +12,7 @@ use Rattle.algebra.specs.Lists.{tabulate, anyOf, joined}
 use Rattle.algebra.specs.Weighted.{sumOver}
 use Rattle.algebra.specs.Rounding.{nearest}
 use Rattle.algebra.specs.Fraction.{whole, times, divide}
+use Rattle.algebra.specs.LowestTerms.{least, leastDenominator, lowestTerms}
 use Rattle.integers.specs.Root.{rootOf}
 use Rattle.groups.specs.Spans.{spanOf, weightsIn, weightedSum}
 use Rattle.groups.specs.Group.{groupValue, groupRefusal, groupAnswer, groupValues, groupRowRefusal}
@@ -26,9 +27,12 @@ use Rattle.observation.specs.RecordAfter.{recordAfter}
 use Rattle.spectrum.specs.Line.{windowAt}
 use Rattle.spectrum.specs.Spectrum.{outOfRange}
 use Rattle.observe.specs.Observe.{windowRows, observeChecks, observeRefusal}
+use Rattle.limits.specs.Limit.{ownFigures, figureIn, limitOf, overOrder}
+use Rattle.limits.specs.Call.{limitRefusal}
 use Rattle.verdict.specs.Question.{asked}
-use Rattle.verdict.specs.Limit.{ownFigures, figureIn, limitOf, overOrder, limitInUnits, peakLimitInUnits}
-use Rattle.verdict.specs.Tests.{raised, atMost, isWithin, isOver}
+use Rattle.verdict.specs.Limit.{limitInUnits, peakLimitInUnits}
+use Rattle.fractions.specs.Parts.{raised, atMost}
+use Rattle.verdict.specs.Tests.{isWithin, isOver}
 use Rattle.verdict.specs.Call.{combined, verdictOf, verdictRefusal}
 use Rattle.observation.specs.Average.{averageOf, peakOf}
 use Rattle.columns.specs.Text.{bytesOf, rightJustified}
@@ -42,6 +46,7 @@ use Rattle.record_words.specs.Parts.{partsFrom}
 use Rattle.record_words.specs.Words.{partsOf, ofParts, wordsOf, recordOf}
 use Rattle.exported_text.specs.ColumnCalls.{columnCallExit}
 use Rattle.exported_text.specs.ListingCall.{listingCallRefusal, listingCallExit, listingCallCountExit}
+use Rattle.exported_limits.specs.LimitCall.{limitNumeratorExit, limitDenominatorExit}
 use Rattle.exported_records.specs.RecordCalls.{freshCallRefusal, freshCallExit, addRowCallRefusal, addRowCallExit}
 use Rattle.exported_windows.specs.ObserveCall.{observeCallRefusal, observeCallExit}
 use Rattle.exported_records.specs.VerdictCall.{verdictNumber, verdictCallRefusal, verdictCallExit}
@@ -94,6 +99,24 @@ distortions-worked :
     [])
 unfolding Alike distortionFor distortionCallRefusal distortionCallExit distortionAnswer distortionOf sumOfSquares sumOver largest
 distortions-worked = refl
+
+-- ---- kifsang_limit
+
+-- the refusal, and what stands in the two lent numbers, 77 and 78 before the call
+limitFor : ℕ → ℕ × (ℕ × ℕ)
+limitFor order = (limitRefusal order, (limitNumeratorExit order 77, limitDenominatorExit order 78))
+
+limits-worked :
+    Alike
+    ((limitFor 2, (0, (1080, 1))) ∷
+    (limitFor 12, (0, (460, 3))) ∷
+    (limitFor 39, (0, (750, 13))) ∷
+    (limitFor 40, (0, (46, 1))) ∷
+    (limitFor 1, (6, (77, 78))) ∷
+    (limitFor 41, (6, (77, 78))) ∷
+    [])
+unfolding Alike limitFor limitRefusal limitNumeratorExit limitDenominatorExit lowestTerms leastDenominator least limitOf figureIn ownFigures overOrder whole
+limits-worked = refl
 
 -- ---- kifsang_verdict
 

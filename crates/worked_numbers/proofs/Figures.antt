@@ -24,7 +24,8 @@ use Rattle.observation.specs.Calls.{bookAt}
 use Rattle.verdict.specs.declared.Verdict.{Verdict}
 use Rattle.verdict.specs.declared.Verdict.the-variants.{Within, Close, Over}
 use Rattle.verdict.specs.Question.{asked}
-use Rattle.verdict.specs.Limit.{ownFigures, figureIn, limitOf, overOrder, limitInUnits, peakLimitInUnits}
+use Rattle.limits.specs.Limit.{ownFigures, figureIn, limitOf, overOrder}
+use Rattle.verdict.specs.Limit.{limitInUnits, peakLimitInUnits}
 use Rattle.accuracy.specs.Distance.{InRange, GroupsNear}
 use Rattle.accuracy.specs.CallList.{CallList, after, state}
 use Rattle.accuracy.specs.Claim.{WorkedList, LBook, UBook, reportedBook, Keeps, observedList}

@@ -1,35 +1,44 @@
--- `verdict::limit::limit_in_units` meets its contract: the parts of the limit times K and 1000, which fit 64 bits for every order and every K.
+-- `verdict::limit::limit_in_units` meets its contract: the parts of the limit times K and 1000, which fit 64 bits for every K.
+use mathlib.Core.Path.{_≡_, ap, _∙_}
 use native.Mathlib.Omega.{arith}
 use borrow.Author.Needs.{needs}
 use mir.Syntax.{w32}
 use mir.Val.{Fits}
 use Rattle.algebra.specs.Fraction.{times, divide}
-use Rattle.verdict.specs.Limit.{limitInUnits}
-use Rattle.verdict.proofs.Limits.{limitInUnits-num-le, limitInUnits-den-le}
+use Rattle.algebra.specs.LowestTerms.{lowestTerms}
+use Rattle.fractions.specs.Parts.{parts}
+use Rattle.limits.specs.declared.LimitAnswer.{LimitAnswer}
+use Rattle.limits.specs.Limit.{limitOf}
+use Rattle.limits.proofs.Limits.{limitAnswer-limit}
+use Rattle.verdict.proofs.Limits.{listedInUnits-num-le, listedInUnits-den-le}
 use Rattle.verdict.proofs.limit.limit_in_units.Statement.{statement}
 use Rattle.verdict.proofs.limit.limit_in_units.Tie as tie
 
-mul-t4 : tie.Need-mul-t4
-unfolding limitInUnits times divide
-mul-t4 c =
-    let q = c .before .before .before .args .question in
-    let fits : Fits w32 (q .scale) = search needs in
-    rw (c .before .before .limit-of .ensures) (omega (arith, limitInUnits-num-le q fits))
+-- the limit that is read
+limit-is : (c : tie.After-order-limit) → c .order-limit .result .limit ≡ parts (lowestTerms (limitOf (c .before .args .question .order)))
+limit-is c = ap (λ (a : LimitAnswer). a .limit) (c .order-limit .ensures) ∙ limitAnswer-limit _ (c .before .pre)
 
 mul-t5 : tie.Need-mul-t5
-unfolding limitInUnits times divide
+unfolding times divide
 mul-t5 c =
-    let q = c .before .before .before .before .args .question in
-    let fits : Fits w32 (q .order) = search needs in
-    rw (c .before .before .before .limit-of .ensures) (omega (arith, limitInUnits-den-le q fits))
+    let at = c .before .before .before in
+    let q = at .before .args .question in
+    let fits : Fits w32 (q .scale) = search needs in
+    rw (limit-is at) (omega (arith, listedInUnits-num-le q (at .before .pre) fits))
+
+mul-t6 : tie.Need-mul-t6
+unfolding times divide
+mul-t6 c =
+    let at = c .before .before .before .before in
+    rw (limit-is at) (omega (arith, listedInUnits-den-le (at .before .args .question) (at .before .pre)))
 
 pub limit-in-units-spec : {M : Type 1} → statement M
-unfolding limitInUnits times divide
+unfolding times divide
 limit-in-units-spec =
     tie.close
     (tie.spec
     (λ c κs. search needs)
     (λ c. search needs)
-    mul-t4
     mul-t5
-    (λ c. rw (c .before .before .before .limit-of .ensures)))
+    mul-t6
+    (λ c. rw (limit-is (c .before .before .before .before))))

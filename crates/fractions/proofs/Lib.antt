@@ -1,0 +1,2 @@
+-- The theorems of fractions by their parts.
+pub mod Parts

@@ -1,0 +1,2 @@
+-- Fractions as the code holds them, and their order.
+pub mod Parts

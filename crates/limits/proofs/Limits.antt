@@ -1,0 +1,57 @@
+-- What callers use of the limits: which orders have one, what the call then answers, that it is document 01's, and how large its parts are.
+use mathlib.Core.Path.{_≡_, refl}
+use mathlib.Core.Bool.{true, _&&_}
+use Prim.Native.Nat.{ℕ, suc, _≤_}
+use native.Mathlib.Omega.{arith}
+use lib.Dec.{leb, leb→le}
+use borrow.Author.Tests.{leb-true, not-false}
+use Rattle.algebra.specs.Fraction.{whole, _≈ᶠ_}
+use Rattle.algebra.specs.LowestTerms.{least, leastDenominator, lowestTerms}
+use Rattle.algebra.proofs.Tests.{and-left, and-right}
+use Rattle.algebra.proofs.Computed.{pass-below}
+use Rattle.algebra.proofs.LowestTerms.{lowestTerms-≈ᶠ}
+use Rattle.refusals.specs.Numbers.{noRefusal, orderOutOfRange}
+use Rattle.refusals.proofs.Answers.{no-faults}
+use Rattle.rows.specs.Orders.{orderCount}
+use Rattle.fractions.specs.Parts.{parts}
+use Rattle.limits.specs.Limit.{firstLimited, hasLimit, ownFigures, overOrder, figureIn, limitOf}
+use Rattle.limits.specs.Call.{limitChecks, limitRefusal, limitAnswer}
+
+-- the largest numerator of a limit in milliamperes, and the largest denominator
+abbrev pub largestNumerator : ℕ
+largestNumerator = 2300
+
+abbrev pub largestDenominator : ℕ
+largestDenominator = 37
+
+pub accepted-has-limit : (order : ℕ) → limitRefusal order ≡ noRefusal → hasLimit order ≡ true
+unfolding limitRefusal
+accepted-has-limit order passed = not-false _ (no-faults (limitChecks order) refl passed orderOutOfRange)
+
+module _ (order : ℕ) (has-limit : hasLimit order ≡ true) where
+  pub limited-ge : firstLimited ≤ order
+  limited-ge = leb-true firstLimited order (and-left (leb firstLimited order) (leb order orderCount) has-limit)
+
+  pub limited-le : order ≤ orderCount
+  limited-le = leb-true order orderCount (and-right (leb firstLimited order) (leb order orderCount) has-limit)
+
+  pub limitAnswer-limit : limitAnswer order .limit ≡ parts (lowestTerms (limitOf order))
+  unfolding limitAnswer limitRefusal
+  limitAnswer-limit = rw has-limit
+
+  -- one computed test over the orders 0..40
+  pub limit-num-le : lowestTerms (limitOf order) .num ≤ largestNumerator
+  unfolding limitOf figureIn ownFigures overOrder whole lowestTerms leastDenominator least
+  limit-num-le =
+      leb→le _ _
+      (pass-below (λ h. leb (lowestTerms (limitOf h) .num) largestNumerator) (suc orderCount) tt order (omega (arith, limited-le)))
+
+  pub limit-den-le : lowestTerms (limitOf order) .den ≤ largestDenominator
+  unfolding limitOf figureIn ownFigures overOrder whole lowestTerms leastDenominator least
+  limit-den-le =
+      leb→le _ _
+      (pass-below (λ h. leb (lowestTerms (limitOf h) .den) largestDenominator) (suc orderCount) tt order (omega (arith, limited-le)))
+
+-- what the table shows is the rule's limit, by cross products
+pub limit-equal : (order : ℕ) → lowestTerms (limitOf order) ≈ᶠ limitOf order
+limit-equal order = lowestTerms-≈ᶠ (limitOf order)

@@ -1,0 +1,28 @@
+-- What the call `order_limit` answers (document 02, card 2): the limit of document 01's rule in lowest terms, as the printed standard has a row for each order.
+use mathlib.Core.Bool.{Bool, not}
+use mathlib.Core.List.{List, [], _∷_}
+use Prim.Native.Nat.{ℕ}
+use Rattle.algebra.specs.Fraction.{Fraction, whole}
+use Rattle.algebra.specs.LowestTerms.{lowestTerms}
+use Rattle.refusals.specs.Numbers.{orderOutOfRange}
+use Rattle.refusals.specs.Answers.{firstFault, unlessRefused}
+use Rattle.fractions.specs.Parts.{parts}
+use Rattle.limits.specs.declared.LimitAnswer.{LimitAnswer}
+use Rattle.limits.specs.Limit.{hasLimit, limitOf}
+
+-- the check "6 order outside 2..40"
+abbrev pub limitedOrderCheck : ℕ → Bool × ℕ
+limitedOrderCheck order = (not (hasLimit order), orderOutOfRange)
+
+abbrev pub limitChecks : ℕ → List (Bool × ℕ)
+limitChecks order = limitedOrderCheck order ∷ []
+
+unfoldable pub limitRefusal : ℕ → ℕ
+limitRefusal order = firstFault (limitChecks order)
+
+-- "A refusal gives its number with 0 as value": as a fraction, 0 over 1
+unfoldable pub limitAnswer : ℕ → LimitAnswer
+limitAnswer order = record {
+  refusal = limitRefusal order;
+  limit = parts (unlessRefused (limitRefusal order) (lowestTerms (limitOf order)) (whole 0));
+}
