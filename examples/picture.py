@@ -1,8 +1,8 @@
 #!/usr/bin/env python3
 """Draws a report of examples/c/report.c as a picture: for each order a bar of the average with its
-margin, in the colour of the verdict, and the peak as a ring, beside their limits. Limits, margin and
-verdicts are those of the report. Writes SVG; refuses what is no report, with status 1, and every
-argument, with status 2.
+margin, in the colour of the verdict, and the peak as a ring; beside the bar the order's limit, with its
+figure. Limits, margin and verdicts are those of the report. Writes SVG; refuses what is no report, with
+status 1, and every argument, with status 2.
 
     report UNITS_PER_AMPERE < recording | picture.py > picture.svg
 """
@@ -14,13 +14,27 @@ from typing import NamedTuple, Optional
 
 ORDERS = 40
 HEAD = ["system", "windows", "units per ampere", "margin, units"]
-COLUMNS = "order  average, units  peak, units  limit, mA  peak limit, mA  verdict"
+COLUMNS = "order  average, units  peak, units  limit, mA  as decimal  peak limit, mA  verdict"
 WHOLE, DECIMAL = " +([0-9]{1,20})", r" +([0-9]{1,20}\.[0-9]{1,20})"
-LINE = re.compile(f"{WHOLE}{DECIMAL}{WHOLE}(?:{DECIMAL}{DECIMAL}  (within|close|over)| +-  +-  -)")
+LIMIT = " +([1-9][0-9]{0,19}(?:/[1-9][0-9]{0,19})?)"
+LINE = re.compile(f"{WHOLE}{DECIMAL}{WHOLE}(?:{LIMIT}{DECIMAL}{DECIMAL}  (within|close|over)| +-  +-  +-  -)")
 COLOURS = {"within": "#2e6da4", "close": "#e39b1f", "over": "#c0392b", None: "#8a8f94"}
 
 WIDTH, HEIGHT, LEFT, RIGHT, TOP, BOTTOM = 980, 460, 70, 20, 64, 76
+GAP, BAR, COLUMN = 2, 9, 9  # in the place of an order: before its bar, the bar, the limit beside it
 LEAST = 1e-4  # amperes at the foot of the logarithmic scale
+
+
+class Limit(NamedTuple):
+    """A limit as the report has it, a whole number of milliamperes or a fraction, and its size."""
+
+    text: str
+    amperes: float
+
+
+def limit_of(text):
+    numerator, _, denominator = text.partition("/")
+    return Limit(text, int(numerator) / int(denominator or 1) / 1000)
 
 
 class Order(NamedTuple):
@@ -28,7 +42,7 @@ class Order(NamedTuple):
 
     average: float
     peak: int
-    limit: Optional[float]
+    limit: Optional[Limit]
     peak_limit: Optional[float]
     verdict: Optional[str]
 
@@ -49,10 +63,10 @@ def read_report(text):
     orders = []
     for number, line in enumerate(lines[len(HEAD) + 2 : -1], start=1):
         found = LINE.fullmatch(line)
-        if found is None or int(found[1]) != number or (found[6] is None) != (number == 1):
+        if found is None or int(found[1]) != number or (found[7] is None) != (number == 1):
             raise ValueError(f"no report: the line of order {number}")
-        limits = [None if found[i] is None else float(found[i]) for i in (4, 5)]
-        orders.append(Order(float(found[2]), int(found[3]), *limits, found[6]))
+        limit, peak_limit = (None, None) if number == 1 else (limit_of(found[4]), float(found[6]))
+        orders.append(Order(float(found[2]), int(found[3]), limit, peak_limit, found[7]))
     return head, orders
 
 
@@ -74,11 +88,22 @@ def picture(head, orders):
     def words(x, y, text, look=""):
         return f'<text x="{x:.1f}" y="{y:.1f}"{look}>{text}</text>'
 
+    def words_upward(x, y, text):
+        return words(0, 0, text, f' font-size="8" transform="translate({x:.1f} {y:.1f}) rotate(-90)"')
+
     def bar(x, y, width, tall, colour):
         return f'<rect x="{x:.1f}" y="{y:.1f}" width="{width:.1f}" height="{tall:.1f}" fill="{colour}"/>'
 
     def ring(x, y):
         return f'<circle cx="{x:.1f}" cy="{y:.1f}" r="3" fill="white" stroke="black"/>'
+
+    def limit_column(x, y, y_peak, y_foot):
+        """The limit as a column beside a bar, and the peak's as a dashed line above it."""
+        return [
+            bar(x, y, COLUMN, y_foot - y, "#dfe3e6"),
+            line(x, x + COLUMN, y, y, 'stroke="black" stroke-width="2"'),
+            line(x, x + COLUMN, y_peak, y_peak, 'stroke="black" stroke-dasharray="2 1"'),
+        ]
 
     out = [
         f'<svg xmlns="http://www.w3.org/2000/svg" width="{WIDTH}" height="{HEIGHT}" font-family="sans-serif" font-size="12">',
@@ -92,14 +117,14 @@ def picture(head, orders):
         out.append(words(LEFT - 8, y + 4, f"{10.0**power:g} A", ' text-anchor="end"'))
     for number, order in enumerate(orders, start=1):
         x = LEFT + (number - 1) * step
-        middle = x + step / 2
+        middle = x + GAP + BAR / 2
         top = height(order.average / units_per_ampere)
         low, high = (height((order.average + way * margin) / units_per_ampere) for way in (-1, 1))
-        out.append(bar(x + 3, top, step - 6, foot - top, COLOURS[order.verdict]))
+        out.append(bar(x + GAP, top, BAR, foot - top, COLOURS[order.verdict]))
         if order.limit is not None:
-            y, y_peak = height(order.limit / 1000), height(order.peak_limit / 1000)
-            out.append(line(x + 1, x + step - 1, y, y, 'stroke="black" stroke-width="2"'))
-            out.append(line(x + 1, x + step - 1, y_peak, y_peak, 'stroke="black" stroke-dasharray="3 2"'))
+            beside = x + GAP + BAR
+            out += limit_column(beside, height(order.limit.amperes), height(order.peak_limit / 1000), foot)
+            out.append(words_upward(beside + COLUMN - 2, foot - 4, order.limit.text))
         out.append(ring(middle, height(order.peak / units_per_ampere)))
         out.append(line(middle, middle, low, high, 'stroke="black"'))
         if number % 2 == 1 or number == ORDERS:
@@ -110,13 +135,11 @@ def picture(head, orders):
         out.append(bar(x, y - 10, 11, 11, colour))
         out.append(words(x + 16, y, verdict or "order 1, which has no limit"))
     x = LEFT + 430
+    out += limit_column(x, y - 4, y - 12, y + 2)
     out += [
-        line(x, x + 20, y - 4, y - 4, 'stroke="black" stroke-width="2"'),
-        words(x + 26, y, "limit of the average"),
-        line(x + 160, x + 180, y - 4, y - 4, 'stroke="black" stroke-dasharray="3 2"'),
-        words(x + 186, y, "limit of the peak"),
-        ring(x + 310, y - 4),
-        words(x + 320, y, "peak"),
+        words(x + 14, y, "limit of the average in mA, and of the peak"),
+        ring(x + 296, y - 4),
+        words(x + 306, y, "peak"),
         words(LEFT, y + 22, f"Bars by order are averages; the margin is {margin} units, {margin / units_per_ampere * 1e6:.2f} &#181;A, either way."),
         "</svg>",
     ]

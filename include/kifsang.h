@@ -10,6 +10,7 @@
  *
  *     kifsang_observe        windows back to back         ->  the record after them
  *     kifsang_verdict        a record and an order        ->  within, close or over
+ *     kifsang_limit          an order                     ->  its limit, for a report or a chart
  *
  *     The same record a window at a time, where memory holds no more:
  *
@@ -49,8 +50,9 @@
  * Limits
  *
  *     Class A, in milliamperes: order 2 1080, 3 2300, 4 430, 5 1140, 6 300, 7 770, 9 400, 11 330,
- *     13 210; odd orders 15..39 2250/order; even orders 8..40 1840/order. With K units per ampere the
- *     limit in units is that figure * K / 1000, as an exact fraction.
+ *     13 210; odd orders 15..39 2250/order; even orders 8..40 1840/order. kifsang_limit answers each in
+ *     lowest terms. With K units per ampere the limit in units is that figure * K / 1000, as an exact
+ *     fraction.
  *
  * Order in buffers
  *
@@ -78,7 +80,8 @@
  *
  *     Each function returns KIFSANG_NO_REFUSAL where it accepts the call, or the number of the first
  *     fault, in the order listed with it. A refused call leaves every buffer as it was, so look at the
- *     number before the buffer. No verdict has the number 0.
+ *     number before the buffer. No verdict has the number 0. docs/REFUSALS.md has the checks of all
+ *     calls in one table.
  *
  * Linking
  *
@@ -109,6 +112,8 @@ extern "C" {
 #define KIFSANG_MOST_WINDOWS 45000      /* the most windows of a record */
 #define KIFSANG_COLUMN_WIDTH 8          /* bytes of a number column */
 #define KIFSANG_LISTING_ROOM 1640       /* bytes that a listing may need */
+#define KIFSANG_SMOOTHED_MARGIN 12      /* units either way of a limit in which a verdict is close */
+#define KIFSANG_PEAK_PERCENT 150        /* of the limit: what the peak of an order is judged against */
 
 /* The places of a record's parts among its words. The last three are the first of 40 places each. */
 #define KIFSANG_SYSTEM_PLACE 0
@@ -314,6 +319,22 @@ uint32_t kifsang_add_row(uint64_t *record, uint64_t record_words, uint32_t syste
 uint32_t kifsang_observe(const int32_t *recording, uint64_t recording_length, uint64_t start,
                          uint64_t windows, uint32_t system, uint32_t kind, uint64_t *record,
                          uint64_t record_words);
+
+/*
+ * Looks up the limit of an order: the milliamperes r.m.s. up to which class A lets its average go, as an
+ * exact fraction in lowest terms. Its peak may go up to KIFSANG_PEAK_PERCENT of that. No record is asked
+ * for, and no verdict is given: kifsang_verdict compares exactly, which a quotient of the two does not.
+ *
+ *   order        in    2..40
+ *   numerator    out   one number, at most 2300
+ *   denominator  out   one number, 1..37; no number but 1 divides both
+ *
+ * Refusals: 6 order outside 2..40. A refused call leaves both numbers as they were.
+ * Proved error: none, the fraction is exact.
+ * Definition: limitRefusal, crates/limits/specs/Call.antt, and limitNumeratorExit and
+ *   limitDenominatorExit, crates/exported_limits/specs/LimitCall.antt.
+ */
+uint32_t kifsang_limit(uint32_t order, uint64_t *numerator, uint64_t *denominator);
 
 /*
  * Judges an order against its class A limit: the average of its smoothed values against the limit,

@@ -3,8 +3,9 @@
  *     report UNITS_PER_AMPERE < recording
  *
  * The recording has the input form of harmlist: a line with the system, then a line for each sample,
- * windows back to back; a line is a number column of 8 bytes and a newline. Verdicts, limits and the
- * margin around them are the core's: this program has no rule of its own.
+ * windows back to back; a line is a number column of 8 bytes and a newline. Verdicts and limits are
+ * the core's, the margin about a limit and the peak's per cent the header's: this program has no rule
+ * of its own.
  *
  * Where the recording has a fault, the output is only the line that harmlist writes for it, `refused`
  * and a number; units per ampere that the core refuses give such a line with 11. The exit status is
@@ -18,15 +19,9 @@
 #define LINE_BYTES (KIFSANG_COLUMN_WIDTH + 1)
 #define FIRST_LIMITED 2 /* order 1 has no limit */
 
-/* The limit of one of the two tests of an order. */
-struct limit {
-    double milliamperes;
-    uint64_t margin; /* units either way in which the core answers close */
-};
-
-/* What the core says of an order. */
+/* What the core says of an order: its limit in mA, and the verdict. */
 struct judgement {
-    struct limit average, peak;
+    uint64_t numerator, denominator;
     uint32_t verdict;
 };
 
@@ -89,55 +84,30 @@ static uint32_t read_recording(FILE *input, uint64_t record[KIFSANG_RECORD_WORDS
     return refusal;
 }
 
-/* The largest value for which the verdict is still the given one or a better one. The value stands at
- * a place of a record of one window, which has no other value: it is an order's sum, and so its
- * average, or its peak. */
-static uint32_t find_last(uint32_t order, int place, uint32_t verdict, uint64_t *last)
-{
-    uint64_t record[KIFSANG_RECORD_WORDS];
-    uint64_t beyond = UINT32_MAX;
-    uint32_t refusal = kifsang_fresh_record(10, record, KIFSANG_RECORD_WORDS);
-    record[KIFSANG_WINDOWS_PLACE] = 1;
-    *last = 0;
-    while (refusal == KIFSANG_NO_REFUSAL && beyond - *last > 1) {
-        uint64_t middle = *last + (beyond - *last) / 2;
-        uint32_t found = 0;
-        record[place] = middle;
-        refusal = kifsang_verdict(record, KIFSANG_RECORD_WORDS, order, KIFSANG_LARGEST_SCALE, &found);
-        if (found <= verdict)
-            *last = middle;
-        else
-            beyond = middle;
-    }
-    return refusal;
-}
-
-/* The limit lies in the middle of the values that are close, and they reach the margin either way. */
-static uint32_t find_limit(uint32_t order, int place, struct limit *limit)
-{
-    uint64_t within = 0, close = 0;
-    uint32_t refusal = find_last(order, place, KIFSANG_WITHIN, &within);
-    if (refusal == KIFSANG_NO_REFUSAL)
-        refusal = find_last(order, place, KIFSANG_CLOSE, &close);
-    limit->milliamperes = 1000.0 * (double)(within + close) / 2 / KIFSANG_LARGEST_SCALE;
-    limit->margin = (close - within) / 2;
-    return refusal;
-}
-
 static uint32_t judge(const uint64_t record[KIFSANG_RECORD_WORDS], uint32_t units_per_ampere,
                       struct judgement judgements[KIFSANG_ORDER_COUNT])
 {
     uint32_t refusal = KIFSANG_NO_REFUSAL;
     for (uint32_t order = FIRST_LIMITED; refusal == KIFSANG_NO_REFUSAL && order <= KIFSANG_ORDER_COUNT; order++) {
-        int place = (int)order - 1;
-        struct judgement *judgement = &judgements[place];
+        struct judgement *judgement = &judgements[order - 1];
         refusal = kifsang_verdict(record, KIFSANG_RECORD_WORDS, order, units_per_ampere, &judgement->verdict);
         if (refusal == KIFSANG_NO_REFUSAL)
-            refusal = find_limit(order, KIFSANG_SUM_PLACE + place, &judgement->average);
-        if (refusal == KIFSANG_NO_REFUSAL)
-            refusal = find_limit(order, KIFSANG_PEAK_PLACE + place, &judgement->peak);
+            refusal = kifsang_limit(order, &judgement->numerator, &judgement->denominator);
     }
     return refusal;
+}
+
+/* The limit as it stands, a whole number without its denominator; then as a decimal, and the peak's. */
+static void print_limits(uint64_t numerator, uint64_t denominator)
+{
+    double limit = (double)numerator / (double)denominator;
+    double peak_limit = (double)(numerator * KIFSANG_PEAK_PERCENT) / (double)(denominator * 100);
+    char text[2 * 20 + 2]; /* two numbers of 64 bits, and a stroke between them */
+    if (denominator == 1)
+        snprintf(text, sizeof text, "%" PRIu64, numerator);
+    else
+        snprintf(text, sizeof text, "%" PRIu64 "/%" PRIu64, numerator, denominator);
+    printf("  %9s  %10.4f  %14.4f", text, limit, peak_limit);
 }
 
 static void print_report(const uint64_t record[KIFSANG_RECORD_WORDS], uint32_t units_per_ampere,
@@ -147,17 +117,18 @@ static void print_report(const uint64_t record[KIFSANG_RECORD_WORDS], uint32_t u
     printf("system            %9" PRIu64 "\n", record[KIFSANG_SYSTEM_PLACE]);
     printf("windows           %9" PRIu64 "\n", windows);
     printf("units per ampere  %9" PRIu32 "\n", units_per_ampere);
-    printf("margin, units     %9" PRIu64 "\n\n", judgements[FIRST_LIMITED - 1].average.margin);
-    printf("order  average, units  peak, units  limit, mA  peak limit, mA  verdict\n");
+    printf("margin, units     %9d\n\n", KIFSANG_SMOOTHED_MARGIN);
+    printf("order  average, units  peak, units  limit, mA  as decimal  peak limit, mA  verdict\n");
     for (int place = 0; place < KIFSANG_ORDER_COUNT; place++) {
         const struct judgement *judgement = &judgements[place];
         double average = (double)record[KIFSANG_SUM_PLACE + place] / (double)windows;
         printf("%5d  %14.2f  %11" PRIu64, place + 1, average, record[KIFSANG_PEAK_PLACE + place]);
-        if (place + 1 < FIRST_LIMITED)
-            printf("  %9s  %14s  %s\n", "-", "-", "-");
-        else
-            printf("  %9.4f  %14.4f  %s\n", judgement->average.milliamperes, judgement->peak.milliamperes,
-                   verdict_word(judgement->verdict));
+        if (place + 1 < FIRST_LIMITED) {
+            printf("  %9s  %10s  %14s  %s\n", "-", "-", "-", "-");
+        } else {
+            print_limits(judgement->numerator, judgement->denominator);
+            printf("  %s\n", verdict_word(judgement->verdict));
+        }
     }
 }
 

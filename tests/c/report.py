@@ -95,6 +95,7 @@ def main():
     others = ["", "\n", "refused 13\n", listing, good[:-1], good + "\n", good + good, good.replace("within", "Within", 1)]
     others += ["\xff", good.replace("limit", "limit\xff", 1), good.replace(".", "9" * 400 + ".", 1), good.replace(SCALE, "9" * 400, 1)]
     others += [good.replace("margin, units", "margin", 1), good.replace("limit", "Limit", 1), good.replace("\n    7 ", "\n    8 ", 1)]
+    others += [good.replace(" 460/3 ", wrong, 1) for wrong in (" 460/0 ", " 0/3 ", " 460/ ", " 460.3 ", " 460/3/1 ")]
     for text in others:
         out, said, status = run([picture], text)
         same(f"picture of {text[:40]!r}", (out, said.count(b"\n"), status), (b"", 1, 1))

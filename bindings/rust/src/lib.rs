@@ -50,6 +50,10 @@ pub const MOST_WINDOWS: u64 = 45000;
 pub const COLUMN_WIDTH: usize = 8;
 /// Bytes that a listing may need.
 pub const LISTING_ROOM: usize = 1640;
+/// Units either way of a limit in which a verdict is close.
+pub const SMOOTHED_MARGIN: u32 = 12;
+/// Of the limit: what the peak of an order is judged against.
+pub const PEAK_PERCENT: u32 = 150;
 
 /// The place of the system among a record's words.
 pub const SYSTEM_PLACE: usize = 0;
@@ -126,6 +130,20 @@ pub enum Kind {
     InterharmonicCentredSubgroup = 4,
 }
 
+/// A limit in milliamperes, an exact fraction in lowest terms.
+#[derive(Clone, Copy, Debug, PartialEq, Eq)]
+pub struct Limit {
+    pub numerator: u64,
+    pub denominator: u64,
+}
+
+impl Limit {
+    /// The limit as the nearest floating-point number, to draw or to print. A verdict compares exactly.
+    pub fn milliamperes(self) -> f64 {
+        self.numerator as f64 / self.denominator as f64
+    }
+}
+
 /// How an order stands to its limit. 0 is none of them.
 #[derive(Clone, Copy, Debug, PartialEq, Eq)]
 #[repr(u32)]
@@ -193,6 +211,7 @@ mod raw {
             record: *mut u64,
             record_words: u64,
         ) -> u32;
+        pub fn kifsang_limit(order: u32, numerator: *mut u64, denominator: *mut u64) -> u32;
         pub fn kifsang_verdict(
             record: *const u64,
             record_words: u64,
@@ -408,6 +427,31 @@ pub fn observe(
         )
     };
     answered(refusal, ())
+}
+
+/// Looks up the limit of an order, 2..40: the milliamperes r.m.s. up to which class A lets its average go.
+/// Its peak may go up to [`PEAK_PERCENT`] of that.
+///
+/// Refusals: 6 order outside 2..40.
+///
+/// Proved error: none, the fraction is exact.
+///
+/// ```
+/// // 2250/39 mA, in lowest terms.
+/// let limit = kifsang::limit(39)?;
+/// assert_eq!((limit.numerator, limit.denominator), (750, 13));
+/// assert_eq!(format!("{:.3} mA", limit.milliamperes()), "57.692 mA");
+/// # Ok::<(), kifsang::Refusal>(())
+/// ```
+pub fn limit(order: u32) -> Result<Limit, Refusal> {
+    let (mut numerator, mut denominator) = (0, 0);
+    // SAFETY: each pointer points to one number.
+    let refusal = unsafe { raw::kifsang_limit(order, &mut numerator, &mut denominator) };
+    let limit = Limit {
+        numerator,
+        denominator,
+    };
+    answered(refusal, limit)
 }
 
 /// Judges an order, 2..40, against its class A limit: the average of its smoothed values against the
