@@ -23,6 +23,7 @@ static uint64_t sound_record[KIFSANG_RECORD_WORDS];
 static uint64_t observed[KIFSANG_RECORD_WORDS], one_by_one[KIFSANG_RECORD_WORDS], c_observed[KIFSANG_RECORD_WORDS];
 static uint32_t core_row[ORDERS], c_row[ORDERS];
 static unsigned char core_text[KIFSANG_LISTING_ROOM], c_text[KIFSANG_LISTING_ROOM];
+static uint16_t c_limits[39][2];
 static volatile uint64_t result;
 
 /* ---- plain C */
@@ -100,6 +101,29 @@ static void c_observe(void)
     }
 }
 
+/* The table of the limits, worked out before anything is timed, and its lookup. */
+static void c_fill_limits(void)
+{
+    static const uint16_t own[14] = {[2] = 1080, 2300, 430, 1140, 300, 770, [9] = 400, [11] = 330, [13] = 210};
+    for (uint16_t h = 2; h <= ORDERS; h++) {
+        uint16_t a = h < 14 && own[h] != 0 ? own[h] : h % 2 == 0 ? 1840 : 2250, b = h < 14 && own[h] != 0 ? 1 : h;
+        uint16_t divisor = b;
+        while (a % divisor != 0 || b % divisor != 0)
+            divisor--;
+        c_limits[h - 2][0] = a / divisor;
+        c_limits[h - 2][1] = b / divisor;
+    }
+}
+
+static uint32_t c_limit(uint32_t order, uint64_t *numerator, uint64_t *denominator)
+{
+    if (order < 2 || order > ORDERS)
+        return 6;
+    *numerator = c_limits[order - 2][0];
+    *denominator = c_limits[order - 2][1];
+    return 0;
+}
+
 static uint32_t c_verdict(const uint64_t *record)
 {
     if (!c_sound(record) || record[1] == 0)
@@ -135,6 +159,8 @@ static void core_distortion(void) { uint64_t t = 0; kifsang_distortion(core_row,
 static void plain_distortion(void) { result = c_distortion(); }
 static void core_add(void) { kifsang_add_row(core_record, KIFSANG_RECORD_WORDS, SYSTEM, core_row, ORDERS); }
 static void plain_add(void) { c_add_row(c_record, c_row); }
+static void core_limit(void) { uint64_t n = 0, d = 0; kifsang_limit(39, &n, &d); result = n * 100 + d; }
+static void plain_limit(void) { uint64_t n = 0, d = 0; c_limit(39, &n, &d); result = n * 100 + d; }
 static void core_verdict(void) { uint32_t v = 9; kifsang_verdict(sound_record, KIFSANG_RECORD_WORDS, 3, 1000000, &v); result = v; }
 static void plain_verdict(void) { result = c_verdict(sound_record); }
 static void core_listing(void)
@@ -228,6 +254,13 @@ int main(void)
     }
     same("add_row", core_record, c_record, sizeof c_record);
     memcpy(sound_record, core_record, sizeof core_record);
+    c_fill_limits();
+    for (uint32_t order = 0; order <= ORDERS + 1; order++) {
+        uint64_t core[3] = {0}, plain[3] = {0};
+        core[0] = kifsang_limit(order, &core[1], &core[2]);
+        plain[0] = c_limit(order, &plain[1], &plain[2]);
+        same("limit", core, plain, sizeof core);
+    }
     core_verdict();
     from_core = result;
     plain_verdict();
@@ -248,6 +281,7 @@ int main(void)
         {"row", core_rows, plain_rows, 400},
         {"distortion", core_distortion, plain_distortion, 400},
         {"add_row", core_add, plain_add, 400},
+        {"limit", core_limit, plain_limit, 400},
         {"verdict", core_verdict, plain_verdict, 400},
         {"fill_listing", core_listing, c_listing, 400},
         {"observe, 50 windows", core_observe, c_observe, 1},

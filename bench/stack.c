@@ -11,7 +11,7 @@
 
 static unsigned char stack[STACK] __attribute__((aligned(4096)));
 static int32_t window[KIFSANG_WINDOW_LENGTH];
-static uint64_t lines[KIFSANG_LINE_COUNT], record[KIFSANG_RECORD_WORDS], number;
+static uint64_t lines[KIFSANG_LINE_COUNT], record[KIFSANG_RECORD_WORDS], number, other_number;
 static uint32_t row[KIFSANG_ORDER_COUNT], verdict;
 static unsigned char text[KIFSANG_LISTING_ROOM];
 static int64_t signed_number;
@@ -27,6 +27,7 @@ static void observe(void)
 {
     kifsang_observe(window, KIFSANG_WINDOW_LENGTH, 0, 1, 10, 1, record, KIFSANG_RECORD_WORDS);
 }
+static void limit(void) { kifsang_limit(39, &number, &other_number); }
 static void judge(void) { kifsang_verdict(record, KIFSANG_RECORD_WORDS, 3, 1000000, &verdict); }
 static void read_column(void) { kifsang_read_column(text, KIFSANG_COLUMN_WIDTH, &signed_number); }
 static void write_column(void) { kifsang_write_column(text, KIFSANG_COLUMN_WIDTH, -7); }
@@ -70,8 +71,9 @@ int main(void)
     } calls[] = {
         {"spectrum", spectrum},         {"lines_from", lines_from},     {"group_value", group_value},
         {"row", whole_row},             {"distortion", distortion},     {"fresh_record", fresh_record},
-        {"add_row", add_row},           {"observe", observe},           {"verdict", judge},
-        {"write_column", write_column}, {"read_column", read_column},   {"fill_listing", fill_listing},
+        {"add_row", add_row},           {"observe", observe},           {"limit", limit},
+        {"verdict", judge},             {"write_column", write_column}, {"read_column", read_column},
+        {"fill_listing", fill_listing},
     };
     for (int i = 0; i < KIFSANG_WINDOW_LENGTH; i++)
         window[i] = i % 97 * 1000 - 48000;

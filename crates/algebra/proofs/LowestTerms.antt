@@ -4,8 +4,8 @@ use mathlib.Core.List.{List, [], _∷_, map}
 use mathlib.Core.Path.{_≡_, refl, sym, _∙_}
 use Prim.Native.Nat.{ℕ, zero, suc, _-_, _*_, _/_, _%_, _≤_, _<_}
 use native.Mathlib.Nat.{div-add-mod, mul-mod-left, mul-le-mul-left, eq-of-mul-eq-mul-left, le-of-mul-le-mul-right}
-use native.Mathlib.Omega.{arith, by-contra}
-use lib.Dec.{eqb, lit<}
+use native.Mathlib.Omega.{arith}
+use lib.Dec.{lit<}
 use borrow.Author.Tests.{eqb-true, eq-eqb}
 use Rattle.algebra.specs.Fraction.{Fraction, whole, _≈ᶠ_}
 use Rattle.algebra.specs.LowestTerms.{least, isWholeOver, leastDenominator, lowestTerms}

@@ -1,5 +1,6 @@
 // The call for C, C++ and Rust programs from an order to its limit; include/kifsang.h declares it.
 // exported_answers says what the exported calls have in common.
+use fractions::Fraction;
 use limits::order_limit;
 use refusals::NO_REFUSAL;
 ghost use mathlib.Core.Path.{_≡_};
@@ -15,7 +16,7 @@ pub extern "C" fn kifsang_limit(order: u32, numerator: &mut u64, denominator: &m
 {
     let answer = order_limit(order);
     if answer.refusal == NO_REFUSAL {
-        let limit = answer.limit;
+        let limit: Fraction = answer.limit;
         *numerator = limit.numerator;
         *denominator = limit.denominator;
     }

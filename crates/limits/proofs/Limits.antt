@@ -1,6 +1,6 @@
 -- What callers use of the limits: which orders have one, what the call then answers, that it is document 01's, and how large its parts are.
 use mathlib.Core.Path.{_≡_, refl}
-use mathlib.Core.Bool.{true, _&&_}
+use mathlib.Core.Bool.{true}
 use Prim.Native.Nat.{ℕ, suc, _≤_}
 use native.Mathlib.Omega.{arith}
 use lib.Dec.{leb, leb→le}

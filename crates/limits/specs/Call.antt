@@ -2,7 +2,7 @@
 use mathlib.Core.Bool.{Bool, not}
 use mathlib.Core.List.{List, [], _∷_}
 use Prim.Native.Nat.{ℕ}
-use Rattle.algebra.specs.Fraction.{Fraction, whole}
+use Rattle.algebra.specs.Fraction.{whole}
 use Rattle.algebra.specs.LowestTerms.{lowestTerms}
 use Rattle.refusals.specs.Numbers.{orderOutOfRange}
 use Rattle.refusals.specs.Answers.{firstFault, unlessRefused}

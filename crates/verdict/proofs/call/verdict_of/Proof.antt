@@ -1,5 +1,5 @@
 -- `verdict::call::verdict_of` meets its contract: the code holds the average and the peak of an accepted call, and limits that are equal to document 01's.
-use mathlib.Core.Path.{_≡_, _∙_}
+use mathlib.Core.Path.{_≡_}
 use Prim.Native.Nat.{_*_, max}
 use native.Mathlib.Omega.{arith}
 use borrow.Author.Needs.{needs}
