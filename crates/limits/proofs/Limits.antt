@@ -52,6 +52,6 @@ module _ (order : ℕ) (has-limit : hasLimit order ≡ true) where
       leb→le _ _
       (pass-below (λ h. leb (lowestTerms (limitOf h) .den) largestDenominator) (suc orderCount) tt order (omega (arith, limited-le)))
 
--- what the table shows is the rule's limit, by cross products
-pub limit-equal : (order : ℕ) → lowestTerms (limitOf order) ≈ᶠ limitOf order
-limit-equal order = lowestTerms-≈ᶠ (limitOf order)
+-- what the table shows is equal to the rule's limit, by cross products
+pub limitOf-listed : (order : ℕ) → lowestTerms (limitOf order) ≈ᶠ limitOf order
+limitOf-listed order = lowestTerms-≈ᶠ (limitOf order)

@@ -55,7 +55,7 @@ const CLASS_A: [LimitRow; LIMITED_ORDERS] = [
     LimitRow(40, 46, 1),
 ];
 
-// The limit of an order, from its row.
+// The limit of an order, from its row. A constant array is copied where it is used, so it is used once.
 pub(crate) fn limit_of(order: u32) -> Fraction
     requires { ⌜ hasLimit order ≡ true ⌝ }
     ensures { λ r. ⌜ r ≡ parts (lowestTerms (limitOf order)) ⌝ }

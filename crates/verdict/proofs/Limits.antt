@@ -9,13 +9,12 @@ use mir.Val.{Fits}
 use Rattle.algebra.specs.Fraction.{Fraction, times, divide, _≈ᶠ_}
 use Rattle.algebra.specs.LowestTerms.{lowestTerms}
 use Rattle.algebra.proofs.Fraction.{≈ᶠ-times, ≈ᶠ-divide}
-use Rattle.algebra.proofs.LowestTerms.{lowestTerms-≈ᶠ}
 use Rattle.observation.specs.Smoothing.{smoothedMargin}
 use Rattle.fractions.specs.declared.Fraction.{Fraction as Held}
 use Rattle.fractions.specs.Parts.{parts}
 use Rattle.fractions.proofs.Parts.{Same, parts-same, raised-same, atMost-same}
 use Rattle.limits.specs.Limit.{hasLimit, limitOf}
-use Rattle.limits.proofs.Limits.{largestNumerator, largestDenominator, limit-num-le, limit-den-le}
+use Rattle.limits.proofs.Limits.{largestNumerator, largestDenominator, limit-num-le, limit-den-le, limitOf-listed}
 use Rattle.verdict.specs.declared.Question.{Question}
 use Rattle.verdict.specs.Limit.{milliamperes, inUnits, threeHalves, limitInUnits, peakLimitInUnits}
 use Rattle.verdict.specs.Tests.{isWithin, isOver}
@@ -77,7 +76,7 @@ pub combined-listed :
 unfolding limitInUnits peakLimitInUnits
 combined-listed q average peak =
     let limit = inUnits (q .scale) (limitOf (q .order)) in
-    let equal = inUnits-≈ᶠ (q .scale) (lowestTerms (limitOf (q .order))) (limitOf (q .order)) (lowestTerms-≈ᶠ (limitOf (q .order))) in
+    let equal = inUnits-≈ᶠ (q .scale) (lowestTerms (limitOf (q .order))) (limitOf (q .order)) (limitOf-listed (q .order)) in
     combined-same average _ _ peak _ _ (q .order)
     (parts-same (listedInUnits q) limit equal)
     (parts-same (threeHalves (listedInUnits q)) (threeHalves limit) (threeHalves-≈ᶠ (listedInUnits q) limit equal))
