@@ -127,8 +127,7 @@ def picture(head, orders):
             out.append(words_upward(beside + COLUMN - 2, foot - 4, order.limit.text))
         out.append(ring(middle, height(order.peak / units_per_ampere)))
         out.append(line(middle, middle, low, high, 'stroke="black"'))
-        if number % 2 == 1 or number == ORDERS:
-            out.append(words(middle, foot + 16, number, ' text-anchor="middle"'))
+        out.append(words(middle, foot + 16, number, ' text-anchor="middle"'))
     y = foot + 38
     for place, (verdict, colour) in enumerate(COLOURS.items()):
         x = LEFT + 80 * place

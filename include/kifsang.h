@@ -113,7 +113,7 @@ extern "C" {
 #define KIFSANG_COLUMN_WIDTH 8          /* bytes of a number column */
 #define KIFSANG_LISTING_ROOM 1640       /* bytes that a listing may need */
 #define KIFSANG_SMOOTHED_MARGIN 12      /* units either way of a limit in which a verdict is close */
-#define KIFSANG_PEAK_PERCENT 150        /* of the limit: what the peak of an order is judged against */
+#define KIFSANG_PEAK_PERCENT 150        /* per cent of the limit, for the peak of an order */
 
 /* The places of a record's parts among its words. The last three are the first of 40 places each. */
 #define KIFSANG_SYSTEM_PLACE 0
@@ -322,8 +322,8 @@ uint32_t kifsang_observe(const int32_t *recording, uint64_t recording_length, ui
 
 /*
  * Looks up the limit of an order: the milliamperes r.m.s. up to which class A lets its average go, as an
- * exact fraction in lowest terms. Its peak may go up to KIFSANG_PEAK_PERCENT of that. No record is asked
- * for, and no verdict is given: kifsang_verdict compares exactly, which a quotient of the two does not.
+ * exact fraction in lowest terms. Its peak may go up to KIFSANG_PEAK_PERCENT per cent of that. It is to be
+ * printed or drawn; kifsang_verdict compares with the fraction itself, and a rounded quotient is none.
  *
  *   order        in    2..40
  *   numerator    out   one number, at most 2300

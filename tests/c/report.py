@@ -54,6 +54,14 @@ FAULTY = [
     (2, recording(10, *WINDOW[:-1])),
     (2, recording(12, *WINDOW, -131071)),
 ]
+# Orders with their limits in figures: as a fraction, as a decimal, and the peak's.
+LIMITS = [
+    ["1", "-", "-", "-"],
+    ["3", "2300", "2300.0000", "3450.0000"],
+    ["12", "460/3", "153.3333", "230.0000"],
+    ["39", "750/13", "57.6923", "86.5385"],
+    ["40", "46", "46.0000", "69.0000"],
+]
 SCALES = ["0", "268435457", "4294967296", "4311351296", "99999999999999999999", "-1", "1.5", " 1", "x", ""]
 
 
@@ -91,6 +99,10 @@ def main():
 
     listing = run([harmlist], whole)[0].decode()
     good = run([report, SCALE], whole)[0].decode()
+    rows = [line.split() for line in good.splitlines()]
+    for row in LIMITS:
+        same(f"report, the limits of order {row[0]}", [found[3:6] for found in rows if found[:1] == row[:1]], [row[1:]])
+    same("report, the margin", rows[3], ["margin,", "units", "12"])
     same("picture of a report", run([picture], good)[1:], (b"", 0))
     others = ["", "\n", "refused 13\n", listing, good[:-1], good + "\n", good + good, good.replace("within", "Within", 1)]
     others += ["\xff", good.replace("limit", "limit\xff", 1), good.replace(".", "9" * 400 + ".", 1), good.replace(SCALE, "9" * 400, 1)]

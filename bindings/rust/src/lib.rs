@@ -52,7 +52,7 @@ pub const COLUMN_WIDTH: usize = 8;
 pub const LISTING_ROOM: usize = 1640;
 /// Units either way of a limit in which a verdict is close.
 pub const SMOOTHED_MARGIN: u32 = 12;
-/// Of the limit: what the peak of an order is judged against.
+/// Per cent of the limit: what the peak of an order is judged against.
 pub const PEAK_PERCENT: u32 = 150;
 
 /// The place of the system among a record's words.
@@ -430,7 +430,7 @@ pub fn observe(
 }
 
 /// Looks up the limit of an order, 2..40: the milliamperes r.m.s. up to which class A lets its average go.
-/// Its peak may go up to [`PEAK_PERCENT`] of that.
+/// Its peak may go up to [`PEAK_PERCENT`] per cent of that.
 ///
 /// Refusals: 6 order outside 2..40.
 ///

@@ -1,5 +1,5 @@
 -- One computed test over a whole list gives the tested rule at each of its entries (specs/Computed.antt).
--- The checker computes the test to true, so `tt` proves it; `rw (entry-is-rule rule)` finds the list in the goal, so that a table's numbers stand once.
+-- The checker computes the test to true, so `tt` proves it; `table-is-rule` finds the list in the goal, so that a table's entries stand once.
 use mathlib.Core.Bool.{Bool, true, false, _&&_}
 use mathlib.Core.List.{List, [], _∷_}
 use mathlib.Core.Path.{_≡_, refl, sym, _∙_}
@@ -20,13 +20,16 @@ squares numbers = allPass (λ k entry. eqb entry (k * k)) numbers
 squares-worked : (squares (0 ∷ 1 ∷ 4 ∷ 9 ∷ []) ≡ true) × (squares (1 ∷ 1 ∷ 4 ∷ 9 ∷ []) ≡ false) × (squares (0 ∷ 1 ∷ 3 ∷ 9 ∷ []) ≡ false) × (squares (0 ∷ 1 ∷ 4 ∷ 8 ∷ []) ≡ false)
 squares-worked = (refl, refl, refl, refl)
 
-pub and-left : (a b : Bool) → T (a && b) → T a
+and-left : (a b : Bool) → T (a && b) → T a
 and-left true b t = tt
 and-left false b t = t
 
-pub and-right : (a b : Bool) → T (a && b) → T b
+and-right : (a b : Bool) → T (a && b) → T b
 and-right true b t = t
 and-right false b t = absurd t
+
+pub both-pass : (a b : Bool) → T (a && b) → T a × T b
+both-pass a b t = (and-left a b t, and-right a b t)
 
 pass-from {ℓ} : {A : Type ℓ} (test : ℕ → A → Bool) (entries : List A) (i : ℕ) → T (passFrom test i entries) → (k : ℕ) → k < length entries → (other : A) → T (test (i + k) (getD entries k other))
 pass-from test [] i t k h other = absurd (not-suc-le-zero h)
@@ -39,16 +42,18 @@ pass-from test (entry ∷ entries) i t (suc k) h other =
 pub pass-at {ℓ} : {A : Type ℓ} (test : ℕ → A → Bool) (entries : List A) → T (allPass test entries) → (k : ℕ) → k < length entries → (other : A) → T (test k (getD entries k other))
 pass-at test entries t k h other = rw zero-add at (pass-from test entries 0 t k h other)
 
--- every entry of a table of numbers is what the rule gives for its place
-pub entry-is-rule : (rule : ℕ → ℕ) (entries : List ℕ) → T (allPass (λ k entry. eqb entry (rule k)) entries) → (k : ℕ) → k < length entries → (other : ℕ) → getD entries k other ≡ rule k
-entry-is-rule rule entries t k h other =
-    eqb→eq (getD entries k other) (rule k) (pass-at (λ k entry. eqb entry (rule k)) entries t k h other)
+-- what holds of tables of any type, with a test that two of its values are the same
+module _ {ℓ} {A : Type ℓ} (same : A → A → Bool) (is-same : (x y : A) → T (same x y) → x ≡ y) (rule : ℕ → A) (table : List A) (passed : T (allPass (λ k entry. same entry (rule k)) table)) where
+  -- every entry is what the rule gives for its place
+  pub entry-is-rule : (k : ℕ) → k < length table → (other : A) → getD table k other ≡ rule k
+  entry-is-rule k h other =
+      is-same (getD table k other) (rule k) (pass-at (λ k entry. same entry (rule k)) table passed k h other)
 
--- a table of which every entry is what a rule gives for its place is the rule's list
-pub table-is-rule : (rule : ℕ → ℕ) (table : List ℕ) → T (allPass (λ k entry. eqb entry (rule k)) table) → table ≡ tabulate (length table) rule
-table-is-rule rule table t =
-    ext-getD 0 table (tabulate (length table) rule) (sym (length-tabulate (length table) rule))
-    (λ k h. entry-is-rule rule table t k h 0 ∙ sym (getD-tabulate (length table) rule k 0 h))
+  -- and the table is the rule's list
+  pub table-is-rule : table ≡ tabulate (length table) rule
+  table-is-rule =
+      ext-getD (rule 0) table (tabulate (length table) rule) (sym (length-tabulate (length table) rule))
+      (λ k h. entry-is-rule k h (rule 0) ∙ sym (getD-tabulate (length table) rule k (rule 0) h))
 
 -- a test of every number below n
 pub pass-below : (test : ℕ → Bool) (n : ℕ) → T (allPass {A = ℕ} (λ k _. test k) (replicate n 0)) → (k : ℕ) → k < n → T (test k)
@@ -56,4 +61,4 @@ pass-below test n t k h = pass-at (λ k _. test k) (replicate n 0) t k (rw lengt
 
 -- the law at work
 squares-pass : (k : ℕ) → k < 5 → getD (0 ∷ 1 ∷ 4 ∷ 9 ∷ 16 ∷ []) k 0 ≡ k * k
-squares-pass k h = rw (entry-is-rule (λ (m : ℕ). m * m))
+squares-pass k h = entry-is-rule eqb eqb→eq (λ (m : ℕ). m * m) (0 ∷ 1 ∷ 4 ∷ 9 ∷ 16 ∷ []) tt k h 0

@@ -28,6 +28,11 @@ half-below-two-thirds : (half <ᶠ two-thirds) × (half ≤ᶠ two-thirds) × (�
 unfolding half two-thirds
 half-below-two-thirds = omega arith
 
+-- 1/2 is equal to 2/4, and not to 2/3
+equal-worked : (half ≈ᶠ record { num = 2; den = 4; den-pos = omega arith }) × (¬ (half ≈ᶠ two-thirds))
+unfolding half two-thirds
+equal-worked = (refl, λ e. absurd (omega (arith, e)))
+
 operations-worked : _≡_ {A = List (ℕ × ℕ)} (map parts (whole 4 ∷ (half +ᶠ two-thirds) ∷ times 3 half ∷ divide two-thirds 4 (lit< tt) ∷ square two-thirds ∷ maximum half two-thirds ∷ mix 1 3 (lit< tt) half two-thirds ∷ [])) ((4, 1) ∷ (7, 6) ∷ (3, 2) ∷ (2, 12) ∷ (4, 9) ∷ (2, 3) ∷ (15, 24) ∷ [])
 unfolding parts half two-thirds whole _+ᶠ_ times divide square maximum mix
 operations-worked = refl

@@ -43,7 +43,7 @@ least-le passes (suc n) (suc k) passed =
 -- ---- lowest terms
 
 module _ (p : Fraction) where
-  -- the denominator of an equal fraction is one
+  -- an equal fraction is whole over its denominator
   isWholeOver-equal : (q : Fraction) → q ≈ᶠ p → isWholeOver p (q .den - 1) ≡ true
   isWholeOver-equal q equal =
       let positive = q .den-pos in
@@ -86,16 +86,13 @@ module _ (p : Fraction) where
 
 -- ---- worked
 
-parts : Fraction → ℕ × ℕ
-parts p = (p .num, p .den)
-
 over : (d : ℕ) → 0 < d → ℕ → Fraction
 over d positive n = record { num = n; den = d; den-pos = positive }
 
 lowestTerms-worked :
     _≡_ {A = List (ℕ × ℕ)}
-    (map (λ p. parts (lowestTerms p))
+    (map (λ p. (lowestTerms p .num, lowestTerms p .den))
     (whole 7 ∷ over 8 (lit< tt) 1840 ∷ over 39 (lit< tt) 2250 ∷ over 12 (lit< tt) 0 ∷ over 4 (lit< tt) 6 ∷ over 3 (lit< tt) 7 ∷ over 21 (lit< tt) 14 ∷ []))
     ((7, 1) ∷ (230, 1) ∷ (750, 13) ∷ (0, 1) ∷ (3, 2) ∷ (7, 3) ∷ (2, 3) ∷ [])
-unfolding parts over whole lowestTerms leastDenominator least
+unfolding over whole lowestTerms leastDenominator least
 lowestTerms-worked = refl

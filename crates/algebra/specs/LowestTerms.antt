@@ -14,7 +14,7 @@ least passes (suc n) = cond (passes 0) 0 (suc (least (λ k. passes (suc k)) n))
 abbrev pub isWholeOver : Fraction → ℕ → Bool
 isWholeOver p k = eqb (p .num * suc k % p .den) 0
 
--- the least denominator of an equal fraction; den is one, so that none above it is looked at
+-- the least denominator of an equal fraction; the fraction's own denominator is among them, so that none above it is looked at
 unfoldable pub leastDenominator : Fraction → ℕ
 leastDenominator p = suc (least (isWholeOver p) (p .den))
 

@@ -14,7 +14,7 @@ use Rattle.refusals.specs.Numbers.{noRefusal, orderOutOfRange}
 use Rattle.refusals.proofs.Answers.{no-faults}
 use Rattle.rows.specs.Orders.{orderCount}
 use Rattle.fractions.specs.Parts.{parts}
-use Rattle.limits.specs.Limit.{firstLimited, hasLimit, ownFigures, overOrder, figureIn, limitOf}
+use Rattle.limits.specs.Limit.{firstLimited, hasLimit, ownFigures, overOrder, figureIn, limitOf, listedLimit}
 use Rattle.limits.specs.Call.{limitChecks, limitRefusal, limitAnswer}
 
 -- the largest numerator of a limit in milliamperes, and the largest denominator
@@ -35,23 +35,23 @@ module _ (order : ℕ) (has-limit : hasLimit order ≡ true) where
   pub limited-le : order ≤ orderCount
   limited-le = leb-true order orderCount (and-right (leb firstLimited order) (leb order orderCount) has-limit)
 
-  pub limitAnswer-limit : limitAnswer order .limit ≡ parts (lowestTerms (limitOf order))
+  pub limitAnswer-limit : limitAnswer order .limit ≡ parts (listedLimit order)
   unfolding limitAnswer limitRefusal
   limitAnswer-limit = rw has-limit
 
   -- one computed test over the orders 0..40
-  pub limit-num-le : lowestTerms (limitOf order) .num ≤ largestNumerator
+  pub listedLimit-num-le : listedLimit order .num ≤ largestNumerator
   unfolding limitOf figureIn ownFigures overOrder whole lowestTerms leastDenominator least
-  limit-num-le =
+  listedLimit-num-le =
       leb→le _ _
-      (pass-below (λ h. leb (lowestTerms (limitOf h) .num) largestNumerator) (suc orderCount) tt order (omega (arith, limited-le)))
+      (pass-below (λ h. leb (listedLimit h .num) largestNumerator) (suc orderCount) tt order (omega (arith, limited-le)))
 
-  pub limit-den-le : lowestTerms (limitOf order) .den ≤ largestDenominator
+  pub listedLimit-den-le : listedLimit order .den ≤ largestDenominator
   unfolding limitOf figureIn ownFigures overOrder whole lowestTerms leastDenominator least
-  limit-den-le =
+  listedLimit-den-le =
       leb→le _ _
-      (pass-below (λ h. leb (lowestTerms (limitOf h) .den) largestDenominator) (suc orderCount) tt order (omega (arith, limited-le)))
+      (pass-below (λ h. leb (listedLimit h .den) largestDenominator) (suc orderCount) tt order (omega (arith, limited-le)))
 
--- what the table shows is equal to the rule's limit, by cross products
-pub limitOf-listed : (order : ℕ) → lowestTerms (limitOf order) ≈ᶠ limitOf order
-limitOf-listed order = lowestTerms-≈ᶠ (limitOf order)
+-- it is equal to the rule's, by cross products
+pub listedLimit-equal : (order : ℕ) → listedLimit order ≈ᶠ limitOf order
+listedLimit-equal order = lowestTerms-≈ᶠ (limitOf order)

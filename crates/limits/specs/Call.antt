@@ -1,14 +1,13 @@
--- What the call `order_limit` answers (document 02, card 2): the limit of document 01's rule in lowest terms, as the printed standard has a row for each order.
+-- What the call `order_limit` answers: the limit of an order as the table lists it (document 02, card 2).
 use mathlib.Core.Bool.{Bool, not}
 use mathlib.Core.List.{List, [], _∷_}
 use Prim.Native.Nat.{ℕ}
 use Rattle.algebra.specs.Fraction.{whole}
-use Rattle.algebra.specs.LowestTerms.{lowestTerms}
 use Rattle.refusals.specs.Numbers.{orderOutOfRange}
 use Rattle.refusals.specs.Answers.{firstFault, unlessRefused}
 use Rattle.fractions.specs.Parts.{parts}
 use Rattle.limits.specs.declared.LimitAnswer.{LimitAnswer}
-use Rattle.limits.specs.Limit.{hasLimit, limitOf}
+use Rattle.limits.specs.Limit.{hasLimit, listedLimit}
 
 -- the check "6 order outside 2..40"
 abbrev pub limitedOrderCheck : ℕ → Bool × ℕ
@@ -24,5 +23,5 @@ limitRefusal order = firstFault (limitChecks order)
 unfoldable pub limitAnswer : ℕ → LimitAnswer
 limitAnswer order = record {
   refusal = limitRefusal order;
-  limit = parts (unlessRefused (limitRefusal order) (lowestTerms (limitOf order)) (whole 0));
+  limit = parts (unlessRefused (limitRefusal order) (listedLimit order) (whole 0));
 }

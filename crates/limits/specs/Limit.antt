@@ -1,11 +1,14 @@
 -- The limits of class A by document 01's rule ("Class A verdicts"). The one place of the specification that knows a milliampere figure.
 use mathlib.Core.Bool.{Bool, cond, _&&_}
 use mathlib.Core.List.{List, [], _∷_}
-use Prim.Native.Nat.{ℕ, _%_, max}
+use Prim.Native.Nat.{ℕ, _+_, _-_, _%_, max}
 use native.Mathlib.Omega.{arith}
 use lib.Dec.{eqb, leb}
 use Rattle.algebra.specs.Fraction.{Fraction, whole}
+use Rattle.algebra.specs.Lists.{tabulate}
+use Rattle.algebra.specs.LowestTerms.{lowestTerms}
 use Rattle.rows.specs.Orders.{orderCount}
+use Rattle.limits.specs.declared.limit_table.LimitRow.{LimitRow}
 
 -- the orders 2..40 have a limit
 abbrev pub firstLimited : ℕ
@@ -38,3 +41,15 @@ figureIn (entry ∷ entries) h other = cond (eqb (entry .0) h) (whole (entry .1)
 -- the limit of an order 2..40, in milliamperes
 unfoldable pub limitOf : ℕ → Fraction
 limitOf h = figureIn ownFigures h (cond (eqb (h % 2) 0) (overOrder evenFigure h) (overOrder oddFigure h))
+
+-- the limit in lowest terms, as the table lists it (document 02, card 2)
+abbrev pub listedLimit : ℕ → Fraction
+listedLimit order = lowestTerms (limitOf order)
+
+-- the row of an order in the table: the order, and its limit as a numerator and a denominator
+abbrev pub limitRow : ℕ → LimitRow
+limitRow order = (order, listedLimit order .num, listedLimit order .den)
+
+-- the table: a row for each order that has a limit
+unfoldable pub limitRows : List LimitRow
+limitRows = tabulate (orderCount + 1 - firstLimited) (λ place. limitRow (place + firstLimited))

@@ -1,9 +1,9 @@
-// The limits of IEC 61000-3-2 for the harmonic orders, as exact fractions of a milliampere. The one place of
-// the code that knows such a figure.
+// The class A limits of IEC 61000-3-2 for the harmonic orders, in milliamperes, as exact fractions. The one
+// place of the code that knows such a figure.
 mod limit_table;
 
 use fractions::Fraction;
-use limit_table::limit_of;
+use limit_table::row_of;
 use refusals::NO_REFUSAL;
 use refusals::ORDER_OUT_OF_RANGE;
 use refusals::fault_or;
@@ -44,6 +44,12 @@ pub fn order_limit(order: u32) -> LimitAnswer
             },
         };
     }
-    let limit = limit_of(order);
-    LimitAnswer { refusal, limit }
+    let row = row_of(order);
+    LimitAnswer {
+        refusal,
+        limit: Fraction {
+            numerator: row.1 as u64,
+            denominator: row.2 as u64,
+        },
+    }
 }

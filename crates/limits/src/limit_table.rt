@@ -1,18 +1,16 @@
 // The constant table of the limits, and its lookup.
 use crate::FIRST_LIMITED;
 use crate::LIMITED_ORDERS;
-use fractions::Fraction;
 ghost use mathlib.Core.Bool.{true};
 ghost use mathlib.Core.Path.{_≡_};
-ghost use Rattle.algebra.specs.LowestTerms.{lowestTerms};
-ghost use Rattle.fractions.specs.Parts.{parts};
-ghost use Rattle.limits.specs.Limit.{hasLimit, limitOf};
+ghost use Rattle.limits.specs.Limit.{hasLimit, limitRow, limitRows};
 
-// A row of the printed table: an order, and its limit in milliamperes as a numerator over a denominator,
-// in lowest terms.
+// A row of the table: an order, and its limit in milliamperes as a numerator and a denominator, in lowest
+// terms.
 pub struct LimitRow(pub u16, pub u16, pub u16);
 
-// Class A of IEC 61000-3-2.
+// Class A of IEC 61000-3-2. It is printed in amperes, and with one row, 0.15 x 15/n, for the odd orders 15..39
+// and one, 0.23 x 8/n, for the even orders 8..40.
 const CLASS_A: [LimitRow; LIMITED_ORDERS] = [
     LimitRow(2, 1080, 1),
     LimitRow(3, 2300, 1),
@@ -55,15 +53,18 @@ const CLASS_A: [LimitRow; LIMITED_ORDERS] = [
     LimitRow(40, 46, 1),
 ];
 
-// The limit of an order, from its row. A constant array is copied where it is used, so it is used once.
-pub(crate) fn limit_of(order: u32) -> Fraction
-    requires { ⌜ hasLimit order ≡ true ⌝ }
-    ensures { λ r. ⌜ r ≡ parts (lowestTerms (limitOf order)) ⌝ }
+// The table, each row shown to be its definition.
+fn limit_rows() -> [LimitRow; LIMITED_ORDERS]
+    ensures { λ r. ⌜ r ≡ limitRows ⌝ }
 {
-    let rows = CLASS_A;
-    let row = rows[(order - FIRST_LIMITED) as usize];
-    Fraction {
-        numerator: row.1 as u64,
-        denominator: row.2 as u64,
-    }
+    CLASS_A
+}
+
+// The row of an order. A constant array is copied where it is used, so it is used once.
+pub(crate) fn row_of(order: u32) -> LimitRow
+    requires { ⌜ hasLimit order ≡ true ⌝ }
+    ensures { λ r. ⌜ r ≡ limitRow order ⌝ }
+{
+    let rows = limit_rows();
+    rows[(order - FIRST_LIMITED) as usize]
 }

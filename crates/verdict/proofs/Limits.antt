@@ -7,14 +7,13 @@ use native.Mathlib.Omega.{arith}
 use mir.Syntax.{w32}
 use mir.Val.{Fits}
 use Rattle.algebra.specs.Fraction.{Fraction, times, divide, _≈ᶠ_}
-use Rattle.algebra.specs.LowestTerms.{lowestTerms}
 use Rattle.algebra.proofs.Fraction.{≈ᶠ-times, ≈ᶠ-divide}
 use Rattle.observation.specs.Smoothing.{smoothedMargin}
 use Rattle.fractions.specs.declared.Fraction.{Fraction as Held}
 use Rattle.fractions.specs.Parts.{parts}
 use Rattle.fractions.proofs.Parts.{Same, parts-same, raised-same, atMost-same}
-use Rattle.limits.specs.Limit.{hasLimit, limitOf}
-use Rattle.limits.proofs.Limits.{largestNumerator, largestDenominator, limit-num-le, limit-den-le, limitOf-listed}
+use Rattle.limits.specs.Limit.{hasLimit, limitOf, listedLimit}
+use Rattle.limits.proofs.Limits.{largestNumerator, largestDenominator, listedLimit-num-le, listedLimit-den-le, listedLimit-equal}
 use Rattle.verdict.specs.declared.Question.{Question}
 use Rattle.verdict.specs.Limit.{milliamperes, inUnits, threeHalves, limitInUnits, peakLimitInUnits}
 use Rattle.verdict.specs.Tests.{isWithin, isOver}
@@ -55,18 +54,18 @@ combined-same average limit otherLimit peak peakLimit otherPeakLimit order same 
 
 -- the limit in units that the code works with
 abbrev pub listedInUnits : Question → Fraction
-listedInUnits q = inUnits (q .scale) (lowestTerms (limitOf (q .order)))
+listedInUnits q = inUnits (q .scale) (listedLimit (q .order))
 
 -- its parts are small enough for 64 bits, and so are three times and twice as much
 pub listedInUnits-num-le : (q : Question) → hasLimit (q .order) ≡ true → Fits w32 (q .scale) → listedInUnits q .num ≤ 2 ^ 32 * largestNumerator
 unfolding times divide
 listedInUnits-num-le q has-limit fits =
     let scale-le : q .scale ≤ 2 ^ 32 = omega arith in
-    mul-le-mul scale-le (limit-num-le (q .order) has-limit)
+    mul-le-mul scale-le (listedLimit-num-le (q .order) has-limit)
 
 pub listedInUnits-den-le : (q : Question) → hasLimit (q .order) ≡ true → listedInUnits q .den ≤ milliamperes * largestDenominator
 unfolding times divide
-listedInUnits-den-le q has-limit = mul-le-mul-left milliamperes (limit-den-le (q .order) has-limit)
+listedInUnits-den-le q has-limit = mul-le-mul-left milliamperes (listedLimit-den-le (q .order) has-limit)
 
 -- in its place document 01's limit gives the same verdict
 pub combined-listed :
@@ -76,7 +75,7 @@ pub combined-listed :
 unfolding limitInUnits peakLimitInUnits
 combined-listed q average peak =
     let limit = inUnits (q .scale) (limitOf (q .order)) in
-    let equal = inUnits-≈ᶠ (q .scale) (lowestTerms (limitOf (q .order))) (limitOf (q .order)) (limitOf-listed (q .order)) in
+    let equal = inUnits-≈ᶠ (q .scale) (listedLimit (q .order)) (limitOf (q .order)) (listedLimit-equal (q .order)) in
     combined-same average _ _ peak _ _ (q .order)
     (parts-same (listedInUnits q) limit equal)
     (parts-same (threeHalves (listedInUnits q)) (threeHalves limit) (threeHalves-≈ᶠ (listedInUnits q) limit equal))

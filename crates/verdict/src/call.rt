@@ -2,7 +2,7 @@
 use crate::Question;
 use crate::Verdict;
 use crate::VerdictAnswer;
-use crate::limit::limit_in_units;
+use crate::limit::listed_in_units;
 use crate::limit::three_halves;
 use crate::tests::is_over;
 use crate::tests::is_within;
@@ -80,7 +80,7 @@ fn verdict_of(observation: Observation, question: Question) -> Verdict
         numerator: observation.peak[place],
         denominator: 1,
     };
-    let limit = limit_in_units(question);
+    let limit = listed_in_units(question);
     let peak_limit = three_halves(limit);
     combined(average, limit, peak, peak_limit, order)
 }

@@ -5,18 +5,17 @@ use limits::order_limit;
 ghost use mathlib.Core.Bool.{true};
 ghost use mathlib.Core.Path.{_≡_};
 ghost use Prim.Native.Nat.{_*_, _^_, _<_};
-ghost use Rattle.algebra.specs.LowestTerms.{lowestTerms};
 ghost use Rattle.fractions.specs.Parts.{held, parts};
-ghost use Rattle.limits.specs.Limit.{hasLimit, limitOf};
+ghost use Rattle.limits.specs.Limit.{hasLimit, listedLimit};
 ghost use Rattle.verdict.specs.Limit.{inUnits};
 
 // Milliamperes in an ampere.
 const MILLIAMPERES: u64 = 1000;
 
-// The limit of the order that is asked for, as the table has it, in units.
-pub(crate) fn limit_in_units(question: Question) -> Fraction
+// The limit of the order that is asked for, as the table lists it, in units.
+pub(crate) fn listed_in_units(question: Question) -> Fraction
     requires { ⌜ hasLimit (question .order) ≡ true ⌝ }
-    ensures { λ r. ⌜ r ≡ parts (inUnits (question .scale) (lowestTerms (limitOf (question .order)))) ⌝ }
+    ensures { λ r. ⌜ r ≡ parts (inUnits (question .scale) (listedLimit (question .order))) ⌝ }
 {
     let limit = order_limit(question.order).limit;
     Fraction {

@@ -1,5 +1,5 @@
 -- The exported calls in figures: the calls' own refusals, each two neighbouring checks in their order, and what the caller's numbers and words
--- hold after. Each call has a table of rows and one computed theorem over it; a lent number is 77 before the call, a lent word 7. kifsang_spectrum,
+-- hold after. Each call has a table of rows and one computed theorem over it; a lent number is 77 before the call, a second one 78, a lent word 7. kifsang_spectrum,
 -- kifsang_lines_from and kifsang_write_column have no check of their own: their tables are those of `spectrum` and `columns`.
 use mathlib.Core.Path.{_≡_, refl}
 use mathlib.Core.List.{List, [], _∷_, _++_, map}

@@ -1,5 +1,6 @@
 //! docs/REFUSALS.md against this program: the row of each call names the faults
-//! for which it is refused, all of them, in the order in which they decide.
+//! for which it is refused, all of them, in the order in which they decide. What a
+//! check says and what a refused call answers stands here too, beside the faults.
 
 use reference::columns::{read_column, write_column};
 use reference::distortion::distortion;
@@ -20,39 +21,48 @@ use std::path::Path;
 const DOCUMENT: &str = "docs/REFUSALS.md";
 
 /// What a row has and is not tried here: the 9 of `harmlist` needs 800 MB of
-/// input, and stands in tests/harmlist.rs and tests/long.
-const ELSEWHERE: [(&str, u8); 1] = [("harmlist", 9)];
+/// input, and stands in tests/harmlist.rs and tests/long. Its 10 and 2 cannot come
+/// together. So its order stands in figures.
+const HARMLIST_LAST: (u8, &str) = (9, "last line of window 45,001");
+const HARMLIST_ORDER: [u8; 6] = [13, 1, 3, 9, 10, 2];
 
 const MOST: usize = MOST_WINDOWS as usize;
 /// The bytes of a line of `harmlist`'s input.
 const LINE: usize = 9;
 
-/// A row of the document: a call and the numbers of its checks in order.
-struct Checks {
+/// A row of the document: a call, what it answers where it is refused, and its
+/// checks in order, each a number and words.
+struct Listed {
     call: String,
-    numbers: Vec<u8>,
+    refused: String,
+    checks: Vec<(u8, String)>,
 }
 
-impl Checks {
+impl Listed {
     /// The place of a number in the row.
     fn place(&self, number: u8) -> usize {
-        let place = self.numbers.iter().position(|&listed| listed == number);
+        let place = self.checks.iter().position(|check| check.0 == number);
         place.unwrap_or_else(|| panic!("{DOCUMENT}, {}: {number} is missing", self.call))
     }
 }
 
 /// The rows of the document's table of calls.
-fn document() -> Vec<Checks> {
+fn document() -> Vec<Listed> {
     let repository = Path::new(env!("CARGO_MANIFEST_DIR")).join("../..");
     let text = std::fs::read_to_string(repository.join(DOCUMENT)).expect(DOCUMENT);
     let from_head = text.lines().skip_while(|line| !line.starts_with("| Call |"));
     let rows = from_head.skip(2).take_while(|line| line.starts_with('|'));
-    let number = |check: &str| check.split(' ').next().and_then(|word| word.parse().ok());
+    let parted = |check: &str| {
+        let (number, words) = check.split_once(' ').expect(check);
+        (number.parse().expect(check), words.to_string())
+    };
     rows.map(|row| {
         let cells: Vec<&str> = row.trim_matches('|').split('|').map(str::trim).collect();
-        let checks = cells.last().expect("a cell").split("; ");
-        let numbers = checks.map(|check| number(check).expect(check)).collect();
-        Checks { call: cells[0].to_string(), numbers }
+        Listed {
+            call: cells[0].to_string(),
+            refused: cells[2].to_string(),
+            checks: cells[5].split("; ").map(parted).collect(),
+        }
     })
     .collect()
 }
@@ -102,14 +112,16 @@ fn longest() -> Arguments {
     Arguments { recording: vec![0; (MOST + 1) * WINDOW_LENGTH], windows: MOST, ..good() }
 }
 
-/// A fault's number, and what puts it into good arguments.
-type Fault = (u8, fn(&mut Arguments));
+/// A fault: the number and the words of its check, and what puts it into good
+/// arguments.
+type Fault = (u8, &'static str, fn(&mut Arguments));
 
-/// A call with faults of which none takes the place of another, so that any two
+/// A call, what it answers where it is refused beside the number, and faults of which none takes the place of another, so that any two
 /// can come together. A call has several where the place of a fault counts too, or
 /// two of its faults cannot come together.
 struct Trial {
     call: &'static str,
+    refused: &'static str,
     run: fn(&mut Arguments) -> u8,
     good: fn() -> Arguments,
     faults: Vec<Fault>,
@@ -119,7 +131,7 @@ impl Trial {
     /// The number that the call answers where some faults are put in, in turn.
     fn answer(&self, faults: &[&Fault]) -> u8 {
         let mut arguments = (self.good)();
-        faults.iter().for_each(|(_, put)| put(&mut arguments));
+        faults.iter().for_each(|fault| fault.2(&mut arguments));
         (self.run)(&mut arguments)
     }
 }
@@ -140,55 +152,106 @@ fn run_harmlist(a: &mut Arguments) -> u8 {
 }
 
 fn trials() -> Vec<Trial> {
-    let systems: [Fault; 2] = [(1, |a| a.system = 0), (1, |a| a.system = 11)];
+    let system = "system not 10 or 12";
+    let systems: [Fault; 2] = [(1, system, |a| a.system = 0), (1, system, |a| a.system = 11)];
+    let short = "fewer than 2,048 samples from start";
     let short_windows: [Fault; 2] =
-        [(2, |a| a.start = WINDOW_LENGTH + 1), (2, |a| a.start = usize::MAX)];
-    let samples: [Fault; 2] =
-        [(3, |a| a.recording[0] = 131_072), (3, |a| a.recording[WINDOW_LENGTH - 2] = -131_072)];
-    let line_counts: [Fault; 2] = [(4, |a| a.lines.truncate(511)), (4, |a| a.lines.resize(513, 0))];
-    let lines: [Fault; 2] =
-        [(5, |a| a.lines[0] = LARGEST_LINE + 1), (5, |a| a.lines[510] = u64::MAX)];
-    let limits: [Fault; 4] = [
-        (6, |a| a.order = 0),
-        (6, |a| a.order = 1),
-        (6, |a| a.order = 41),
-        (6, |a| a.order = u64::from(u32::MAX)),
+        [(2, short, |a| a.start = WINDOW_LENGTH + 1), (2, short, |a| a.start = usize::MAX)];
+    let sample = "a sample out of range";
+    let samples: [Fault; 2] = [
+        (3, sample, |a| a.recording[0] = 131_072),
+        (3, sample, |a| a.recording[WINDOW_LENGTH - 2] = -131_072),
     ];
+    let buffer = "buffer not 512 lines";
+    let buffers: [Fault; 2] =
+        [(4, buffer, |a| a.lines.truncate(511)), (4, buffer, |a| a.lines.resize(513, 0))];
+    let past = "buffer reaches past line 1,023";
+    let count = "not 512 lines";
+    let large = "any of the 512 above 2^59";
+    let lines: [Fault; 4] = [
+        (4, count, |a| a.lines.truncate(511)),
+        (4, count, |a| a.lines.resize(513, 0)),
+        (5, large, |a| a.lines[0] = LARGEST_LINE + 1),
+        (5, large, |a| a.lines[510] = u64::MAX),
+    ];
+    let order = "order outside 1..40";
+    let limited = "order outside 2..40";
+    let limited_orders: [Fault; 4] = [
+        (6, limited, |a| a.order = 0),
+        (6, limited, |a| a.order = 1),
+        (6, limited, |a| a.order = 41),
+        (6, limited, |a| a.order = u64::from(u32::MAX)),
+    ];
+    let unsound = "record not sound";
     let records: [Fault; 3] = [
-        (7, |a| a.record.smoothed[0] = 1 << 32),
-        (7, |a| a.record.sum[20] = u64::MAX),
-        (7, |a| a.record.peak[39] = 1 << 32),
+        (7, unsound, |a| a.record.smoothed[0] = 1 << 32),
+        (7, unsound, |a| a.record.sum[20] = u64::MAX),
+        (7, unsound, |a| a.record.peak[39] = 1 << 32),
     ];
-    let trial = |call, run, faults: &[&[Fault]]| Trial { call, run, good, faults: faults.concat() };
+    let scale = "K outside 1..2^28";
+    let form = "text not 8 bytes of the form";
+    let (column, wide) = ("buffer not 8 bytes", "number wider than 8");
+    let short_observed = "fewer than 2,048 samples from a window's start";
+    let sample_observed = "a sample of it out of range";
+    let full_observed = "45,000 windows before it";
+    let line = "a line not a column and a newline, or no system line";
+    let (none, last_short) = ("no sample at all", "last window short");
+    let trial = |call, refused, run, faults: &[&[Fault]]| Trial {
+        call,
+        refused,
+        run,
+        good,
+        faults: faults.concat(),
+    };
+    let observed =
+        |faults: &[&[Fault]]| trial("observe", "a record of zeros, system 10", run_observe, faults);
+    let listed = |faults: &[Fault]| {
+        trial("harmlist", "only the line `refused` with the number", run_harmlist, &[faults])
+    };
     vec![
         trial(
             "spectrum",
+            "nothing",
             |a| number_or_zero(&spectrum(&a.recording, a.start, &mut a.lines)),
-            &[&short_windows, &line_counts, &samples],
+            &[&short_windows, &buffers, &samples],
         ),
         trial(
             "lines from",
+            "nothing",
             |a| number_or_zero(&lines_from(&a.recording, a.start, a.first, &mut a.lines)),
-            &[&short_windows, &[(4, |a| a.first = 513), (4, |a| a.lines.resize(513, 0))], &samples],
+            &[
+                &short_windows,
+                &[(4, past, |a| a.first = 513), (4, past, |a| a.lines.resize(513, 0))],
+                &samples,
+            ],
         ),
         trial(
             "group value",
+            "value 0",
             |a| number_or_zero(&group_value(Kind::HarmonicGroup, a.system, a.order, &a.lines)),
-            &[&systems, &[(6, |a| a.order = 0), (6, |a| a.order = 41)], &line_counts, &lines],
+            &[&systems, &[(6, order, |a| a.order = 0), (6, order, |a| a.order = 41)], &lines],
         ),
         trial(
             "row",
+            "a row of zeros, system 10",
             |a| number_or_zero(&group_row(Kind::HarmonicGroup, a.system, &a.lines)),
-            &[&systems, &line_counts, &lines],
+            &[&systems, &lines],
         ),
         trial(
             "distortion",
+            "value 0",
             |a| number_or_zero(&distortion(&a.values)),
-            &[&[(12, |a| a.values[0] = 0)]],
+            &[&[(12, "group 1 is 0", |a| a.values[0] = 0)]],
         ),
-        trial("fresh record", |a| refusal_number(fresh_record(a.system).1), &[&systems]),
+        trial(
+            "fresh record",
+            "a record of zeros, system 10",
+            |a| refusal_number(fresh_record(a.system).1),
+            &[&systems],
+        ),
         trial(
             "add row",
+            "the record unchanged",
             |a| {
                 let row = Row { system: a.system, values: a.values };
                 refusal_number(add_row(a.record.clone(), &row).1)
@@ -196,110 +259,105 @@ fn trials() -> Vec<Trial> {
             &[
                 &records,
                 &systems,
-                &[(8, |a| a.record.system = 12), (9, |a| a.record.windows = MOST_WINDOWS)],
+                &[(8, "system differs from the record's", |a| a.record.system = 12)],
+                &[(9, "45,000 windows held", |a| a.record.windows = MOST_WINDOWS)],
             ],
         ),
-        trial(
-            "observe",
-            run_observe,
-            &[&systems, &[(2, |a| a.recording.truncate(WINDOW_LENGTH - 1))], &samples],
-        ),
-        trial(
-            "observe",
-            run_observe,
+        observed(&[
+            &systems,
             &[
-                &systems,
-                &[
-                    (2, |a| a.recording.truncate(2 * WINDOW_LENGTH - 1)),
-                    (3, |a| a.recording[WINDOW_LENGTH] = i32::MIN),
-                ],
+                (2, short_observed, |a| a.recording.truncate(WINDOW_LENGTH - 1)),
+                (3, sample_observed, |a| a.recording[0] = 131_072),
+                (3, sample_observed, |a| a.recording[WINDOW_LENGTH - 2] = -131_072),
             ],
+        ]),
+        observed(&[
+            &systems,
+            &[
+                (2, short_observed, |a| a.recording.truncate(2 * WINDOW_LENGTH - 1)),
+                (3, sample_observed, |a| a.recording[WINDOW_LENGTH] = i32::MIN),
+            ],
+        ]),
+        // Window 45,001. The others are alike, so that they take little time.
+        Trial {
+            good: longest,
+            ..observed(&[&[
+                (2, short_observed, |a| (a.windows, a.start) = (MOST + 1, 1)),
+                (3, sample_observed, |a| {
+                    a.windows = MOST + 1;
+                    a.recording[MOST * WINDOW_LENGTH + 1] = 131_072;
+                }),
+                (9, full_observed, |a| a.windows = MOST + 1),
+            ]])
+        },
+        trial(
+            "limit",
+            "the limit 0/1",
+            |a| number_or_zero(&order_limit(a.order)),
+            &[&limited_orders],
         ),
-        trial("limit", |a| number_or_zero(&order_limit(a.order)), &[&limits]),
         trial(
             "verdict",
+            "nothing",
             |a| {
                 let question = Question { order: a.order, scale: a.scale };
                 number_or_zero(&order_verdict(&a.record, question))
             },
             &[
                 &records,
-                &[(10, |a| a.record.windows = 0)],
-                &limits,
-                &[(11, |a| a.scale = 0), (11, |a| a.scale = LARGEST_SCALE + 1)],
+                &[(10, "no window yet", |a| a.record.windows = 0)],
+                &limited_orders,
+                &[(11, scale, |a| a.scale = 0), (11, scale, |a| a.scale = LARGEST_SCALE + 1)],
             ],
         ),
         trial(
             "column read",
+            "value 0",
             |a| number_or_zero(&read_column(&a.text)),
-            &[&[(13, |a| a.text.truncate(7)), (13, |a| a.text[7] = b'0')]],
+            &[&[(13, form, |a| a.text.truncate(7)), (13, form, |a| a.text[7] = b'0')]],
         ),
         trial(
             "column write",
+            "nothing",
             |a| number_or_zero(&write_column(&mut a.column, a.number)),
             &[&[
-                (14, |a| a.column.truncate(7)),
-                (14, |a| a.column.resize(9, 0)),
-                (13, |a| a.number = 100_000_000),
-                (13, |a| a.number = -10_000_000),
+                (14, column, |a| a.column.truncate(7)),
+                (14, column, |a| a.column.resize(9, 0)),
+                (13, wide, |a| a.number = 100_000_000),
+                (13, wide, |a| a.number = -10_000_000),
             ]],
         ),
         trial(
             "listing",
+            "value 0",
             |a| number_or_zero(&fill_listing(&a.values, &a.values, &a.values, &mut a.listing)),
-            &[&[(14, |a| a.listing.truncate(1_639))]],
+            &[&[(14, "buffer shorter than 1,640 bytes", |a| a.listing.truncate(1_639))]],
         ),
-        trial("harmlist", run_harmlist, &[&[(13, |a| a.input.clear())]]),
+        listed(&[(13, line, |a| a.input.clear())]),
         // 13 in the line of the system, with samples after it and with none.
-        trial(
-            "harmlist",
-            run_harmlist,
-            &[&[
-                (13, |a| a.input[LINE - 1] = b' '),
-                (1, |a| a.input[LINE - 2] = b'1'),
-                (3, |a| a.input[LINE..2 * LINE - 1].copy_from_slice(b"  131072")),
-                (2, |a| a.input.truncate(WINDOW_LENGTH * LINE)),
-            ]],
-        ),
-        trial(
-            "harmlist",
-            run_harmlist,
-            &[&[
-                (13, |a| a.input[LINE - 1] = b' '),
-                (1, |a| a.input[LINE - 2] = b'1'),
-                (10, |a| a.input.truncate(LINE)),
-            ]],
-        ),
+        listed(&[
+            (13, line, |a| a.input[LINE - 1] = b' '),
+            (1, system, |a| a.input[LINE - 2] = b'1'),
+            (3, sample, |a| a.input[LINE..2 * LINE - 1].copy_from_slice(b"  131072")),
+            (2, last_short, |a| a.input.truncate(WINDOW_LENGTH * LINE)),
+        ]),
+        listed(&[
+            (13, line, |a| a.input[LINE - 1] = b' '),
+            (1, system, |a| a.input[LINE - 2] = b'1'),
+            (10, none, |a| a.input.truncate(LINE)),
+        ]),
         // 13 in the line of a sample.
-        trial(
-            "harmlist",
-            run_harmlist,
-            &[&[
-                (13, |a| a.input[2 * LINE - 1] = b' '),
-                (3, |a| a.input[LINE..2 * LINE - 1].copy_from_slice(b" -131072")),
-                (2, |a| a.input.truncate(WINDOW_LENGTH * LINE)),
-            ]],
-        ),
-        // Window 45,001. The others are alike, so that they take little time.
-        Trial {
-            call: "observe",
-            run: run_observe,
-            good: longest,
-            faults: vec![
-                (2, |a| (a.windows, a.start) = (MOST + 1, 1)),
-                (3, |a| {
-                    a.windows = MOST + 1;
-                    a.recording[MOST * WINDOW_LENGTH + 1] = 131_072;
-                }),
-                (9, |a| a.windows = MOST + 1),
-            ],
-        },
+        listed(&[
+            (13, line, |a| a.input[2 * LINE - 1] = b' '),
+            (3, sample, |a| a.input[LINE..2 * LINE - 1].copy_from_slice(b" -131072")),
+            (2, last_short, |a| a.input.truncate(WINDOW_LENGTH * LINE)),
+        ]),
     ]
 }
 
 #[test]
 fn rows_are_the_calls() {
-    let listed: Vec<String> = document().into_iter().map(|checks| checks.call).collect();
+    let listed: Vec<String> = document().into_iter().map(|row| row.call).collect();
     let calls: BTreeSet<&str> = trials().iter().map(|trial| trial.call).collect();
     for call in &calls {
         let count = listed.iter().filter(|listed| listed == call).count();
@@ -311,17 +369,22 @@ fn rows_are_the_calls() {
 }
 
 #[test]
-fn numbers_are_those_of_the_faults() {
-    for Checks { call, numbers } in document() {
-        let trials = trials().into_iter().filter(|trial| trial.call == call);
-        let mut faults: Vec<u8> =
-            trials.flat_map(|trial| trial.faults).map(|(number, _)| number).collect();
-        faults.extend(ELSEWHERE.iter().filter(|there| there.0 == call).map(|there| there.1));
-        faults.sort();
-        faults.dedup();
-        let mut sorted = numbers.clone();
-        sorted.sort();
-        assert!(sorted == faults, "{DOCUMENT}, {call}: checks {numbers:?}, but faults {faults:?}");
+fn checks_are_those_of_the_faults() {
+    for Listed { call, refused, checks } in document() {
+        let mut faults = BTreeSet::new();
+        for trial in trials().into_iter().filter(|trial| trial.call == call) {
+            assert_eq!(refused, trial.refused, "{DOCUMENT}, {call}: answered beside the number");
+            faults.extend(trial.faults.iter().map(|fault| (fault.0, fault.1.to_string())));
+        }
+        if call == "harmlist" {
+            faults.insert((HARMLIST_LAST.0, HARMLIST_LAST.1.to_string()));
+            let numbers: Vec<u8> = checks.iter().map(|check| check.0).collect();
+            assert_eq!(numbers, HARMLIST_ORDER, "{DOCUMENT}, harmlist: the order");
+        }
+        assert_eq!(checks.len(), faults.len(), "{DOCUMENT}, {call}: {checks:?}, but {faults:?}");
+        for check in checks {
+            assert!(faults.contains(&check), "{DOCUMENT}, {call}: {check:?} is none of {faults:?}");
+        }
     }
 }
 
@@ -339,11 +402,11 @@ fn each_fault_alone_has_its_number() {
 fn of_two_faults_the_first_of_the_row_decides() {
     let document = document();
     for trial in trials() {
-        let Some(checks) = document.iter().find(|checks| checks.call == trial.call) else {
+        let Some(row) = document.iter().find(|row| row.call == trial.call) else {
             continue; // rows_are_the_calls tells of it
         };
         let pairs = trial.faults.iter().flat_map(|first| {
-            let is_later = |later: &&Fault| checks.place(first.0) < checks.place(later.0);
+            let is_later = |later: &&Fault| row.place(first.0) < row.place(later.0);
             trial.faults.iter().filter(is_later).map(move |later| (first, later))
         });
         for (first, later) in pairs {

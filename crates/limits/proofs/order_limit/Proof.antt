@@ -17,13 +17,23 @@ returns : tie.Need-returns
 unfolding limitAnswer whole
 returns c = rw (← refusal-is (c .before), ne-eqb _ noRefusal (c .if1 .taken))
 
-limit-of-requires : tie.Need-limit-of-requires
-limit-of-requires c κs = accepted-has-limit _ (sym (refusal-is (c .before)) ∙ c .if1 .left)
+row-of-requires : tie.Need-row-of-requires
+row-of-requires c κs = accepted-has-limit _ (sym (refusal-is (c .before)) ∙ c .if1 .left)
 
 returns-2 : tie.Need-returns-2
 unfolding limitAnswer
-returns-2 c = rw (← refusal-is (c .before .before), c .before .if1 .left, c .limit-of .ensures)
+returns-2 c =
+    let at = c .before .before in
+    rw (← refusal-is (at .before .before), at .before .if1 .left, at .row-of .ensures)
 
 pub order-limit-spec : {M : Type 1} → statement M
 order-limit-spec =
-    tie.close (tie.spec (λ c κs. search needs) (λ c κs. search needs) returns limit-of-requires returns-2)
+    tie.close
+    (tie.spec
+    (λ c κs. search needs)
+    (λ c κs. search needs)
+    returns
+    row-of-requires
+    (λ c. search needs)
+    (λ c. search needs)
+    returns-2)

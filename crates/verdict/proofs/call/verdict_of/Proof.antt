@@ -22,7 +22,7 @@ three-halves-requires c κs =
     let q = start .args .question in
     let fits : Fits w32 (q .scale) = search needs in
     let has-limit = known start .has-limit in
-    rw (c .limit-in-units .ensures)
+    rw (c .listed-in-units .ensures)
     (omega (arith, listedInUnits-num-le q has-limit fits), omega (arith, listedInUnits-den-le q has-limit))
 
 returns : tie.Need-returns
@@ -31,7 +31,7 @@ returns c =
     let start = c .before .before .before .before .before in
     let a = known start in
     let count : max (start .args .t1 .windows) 1 * 1 ≡ start .args .t1 .windows = omega arith in
-    rw (c .combined .ensures, c .before .three-halves .ensures, c .before .before .limit-in-units .ensures, count)
+    rw (c .combined .ensures, c .before .three-halves .ensures, c .before .before .listed-in-units .ensures, count)
     (combined-listed (start .args .question) _ _)
 
 pub verdict-of-spec : {M : Type 1} → statement M
