@@ -27,12 +27,12 @@ use Rattle.observation.specs.Book.{Book, emptyBook, smoothedNext, bookStep}
 use Rattle.observation.specs.Smoothing.{smoothedValue, reported}
 use Rattle.observation.specs.Calls.{rowChecks, bookAt}
 use Rattle.observation.specs.BookCalls.{accepts, EachAccepted, bookCall, bookAfter, ownValues}
+use Rattle.fractions.specs.Parts.{parts, raised, atMost}
+use Rattle.limits.specs.Limit.{ownFigures, figureIn, limitOf, overOrder}
 use Rattle.verdict.specs.declared.Verdict.{Verdict}
 use Rattle.verdict.specs.declared.Verdict.the-variants.{Within, Close, Over}
 use Rattle.verdict.specs.Question.{asked}
-use Rattle.limits.specs.Limit.{ownFigures, figureIn, limitOf, overOrder}
 use Rattle.verdict.specs.Limit.{limitInUnits, peakLimitInUnits}
-use Rattle.fractions.specs.Parts.{parts, raised, atMost}
 use Rattle.verdict.specs.Tests.{isWithin, isOver}
 use Rattle.verdict.specs.Call.{combined, verdictOf}
 use Rattle.observation.specs.Average.{averageOf, peakOf}

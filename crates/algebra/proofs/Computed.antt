@@ -43,7 +43,9 @@ pub pass-at {ℓ} : {A : Type ℓ} (test : ℕ → A → Bool) (entries : List A
 pass-at test entries t k h other = rw zero-add at (pass-from test entries 0 t k h other)
 
 -- what holds of tables of any type, with a test that two of its values are the same
-module _ {ℓ} {A : Type ℓ} (same : A → A → Bool) (is-same : (x y : A) → T (same x y) → x ≡ y) (rule : ℕ → A) (table : List A) (passed : T (allPass (λ k entry. same entry (rule k)) table)) where
+module _
+    {ℓ} {A : Type ℓ} (same : A → A → Bool) (is-same : (x y : A) → T (same x y) → x ≡ y)
+    (rule : ℕ → A) (table : List A) (passed : T (allPass (λ k entry. same entry (rule k)) table)) where
   -- every entry is what the rule gives for its place
   pub entry-is-rule : (k : ℕ) → k < length table → (other : A) → getD table k other ≡ rule k
   entry-is-rule k h other =

@@ -2,8 +2,8 @@
 use mathlib.Core.Bool.{Bool, true, false, true≢false, cond}
 use mathlib.Core.List.{List, [], _∷_, map}
 use mathlib.Core.Path.{_≡_, refl, sym, _∙_}
-use Prim.Native.Nat.{ℕ, zero, suc, _-_, _*_, _/_, _%_, _≤_, _<_}
-use native.Mathlib.Nat.{div-add-mod, mul-mod-left, mul-le-mul-left, eq-of-mul-eq-mul-left, le-of-mul-le-mul-right}
+use Prim.Native.Nat.{ℕ, zero, suc, _-_, _*_, _%_, _≤_, _<_}
+use native.Mathlib.Nat.{div-add-mod, mul-mod-left, eq-of-mul-eq-mul-left}
 use native.Mathlib.Omega.{arith}
 use lib.Dec.{lit<}
 use borrow.Author.Tests.{eqb-true, eq-eqb}
@@ -64,14 +64,6 @@ module _ (p : Fraction) where
   unfolding lowestTerms leastDenominator
   lowestTerms-least q equal =
       omega (arith, q .den-pos, least-le (isWholeOver p) (p .den) (q .den - 1) (isWholeOver-equal q equal))
-
-  -- so neither part is larger than it was
-  pub lowestTerms-den-le : lowestTerms p .den ≤ p .den
-  lowestTerms-den-le = lowestTerms-least p refl
-
-  pub lowestTerms-num-le : lowestTerms p .num ≤ p .num
-  lowestTerms-num-le =
-      le-of-mul-le-mul-right {k = p .den} (omega (arith, lowestTerms-≈ᶠ, mul-le-mul-left (p .num) lowestTerms-den-le)) (p .den-pos)
 
   -- no number but 1 divides both parts
   pub lowestTerms-coprime : (d n m : ℕ) → lowestTerms p .num ≡ d * n → lowestTerms p .den ≡ d * m → d ≡ 1

@@ -6,7 +6,7 @@ use mathlib.Core.List.{List, [], _∷_}
 use Prim.Native.Nat.{ℕ, zero, suc, _≤_, _<_}
 use native.Mathlib.Decide.{decLe}
 use native.Mathlib.Omega.{arith}
-use borrow.Author.Tests.{le-leb, lt-leb}
+use borrow.Author.Tests.{leb-true, le-leb, lt-leb}
 use lib.Dec.{leb, ltb}
 use lib.ListN.{getD}
 use Rattle.algebra.specs.Lists.{allTrue}
@@ -42,6 +42,11 @@ allFrom-eq so-far (test ∷ tests) = allFrom-eq (so-far && test) tests ∙ and-a
 tests-worked : (allTrue [] ≡ true) × (allTrue (true ∷ true ∷ true ∷ []) ≡ true) × (allTrue (false ∷ true ∷ true ∷ []) ≡ false)
     × (allTrue (true ∷ false ∷ true ∷ []) ≡ false) × (allTrue (true ∷ true ∷ false ∷ []) ≡ false)
 tests-worked = (refl, refl, refl, refl, refl)
+
+-- a number that is tested to be in a range
+pub leb-range : (least number most : ℕ) → leb least number && leb number most ≡ true → (least ≤ number) × (number ≤ most)
+leb-range least number most e =
+    (leb-true least number (and-left (leb least number) (leb number most) e), leb-true number most (and-right (leb least number) (leb number most) e))
 
 -- two tests that follow from each other are the same
 pub leb-same : (a b c d : ℕ) → (a ≤ b → c ≤ d) → (c ≤ d → a ≤ b) → leb a b ≡ leb c d

@@ -1,14 +1,14 @@
 -- What callers use of the limits: which orders have one, what the call then answers, that it is document 01's, and how large its parts are.
 use mathlib.Core.Path.{_≡_, refl}
-use mathlib.Core.Bool.{true}
+use mathlib.Core.Bool.{true, _&&_}
 use Prim.Native.Nat.{ℕ, suc, _≤_}
 use native.Mathlib.Omega.{arith}
-use lib.Dec.{leb, leb→le}
-use borrow.Author.Tests.{leb-true, not-false}
+use lib.Dec.{T, leb, leb→le}
+use borrow.Author.Tests.{not-false}
 use Rattle.algebra.specs.Fraction.{whole, _≈ᶠ_}
 use Rattle.algebra.specs.LowestTerms.{least, leastDenominator, lowestTerms}
-use Rattle.algebra.proofs.Tests.{and-left, and-right}
-use Rattle.algebra.proofs.Computed.{pass-below}
+use Rattle.algebra.proofs.Tests.{leb-range}
+use Rattle.algebra.proofs.Computed.{both-pass, pass-below}
 use Rattle.algebra.proofs.LowestTerms.{lowestTerms-≈ᶠ}
 use Rattle.refusals.specs.Numbers.{noRefusal, orderOutOfRange}
 use Rattle.refusals.proofs.Answers.{no-faults}
@@ -30,28 +30,28 @@ accepted-has-limit order passed = not-false _ (no-faults (limitChecks order) ref
 
 module _ (order : ℕ) (has-limit : hasLimit order ≡ true) where
   pub limited-ge : firstLimited ≤ order
-  limited-ge = leb-true firstLimited order (and-left (leb firstLimited order) (leb order orderCount) has-limit)
+  limited-ge = leb-range firstLimited order orderCount has-limit .0
 
   pub limited-le : order ≤ orderCount
-  limited-le = leb-true order orderCount (and-right (leb firstLimited order) (leb order orderCount) has-limit)
+  limited-le = leb-range firstLimited order orderCount has-limit .1
 
   pub limitAnswer-limit : limitAnswer order .limit ≡ parts (listedLimit order)
   unfolding limitAnswer limitRefusal
   limitAnswer-limit = rw has-limit
 
-  -- one computed test over the orders 0..40
-  pub listedLimit-num-le : listedLimit order .num ≤ largestNumerator
+  -- how large it is: one computed test over the orders 0..40
+  bounded : T (leb (listedLimit order .num) largestNumerator) × T (leb (listedLimit order .den) largestDenominator)
   unfolding limitOf figureIn ownFigures overOrder whole lowestTerms leastDenominator least
-  listedLimit-num-le =
-      leb→le _ _
-      (pass-below (λ h. leb (listedLimit h .num) largestNumerator) (suc orderCount) tt order (omega (arith, limited-le)))
+  bounded =
+      both-pass (leb (listedLimit order .num) largestNumerator) (leb (listedLimit order .den) largestDenominator)
+      (pass-below (λ h. leb (listedLimit h .num) largestNumerator && leb (listedLimit h .den) largestDenominator) (suc orderCount) tt order (omega (arith, limited-le)))
+
+  pub listedLimit-num-le : listedLimit order .num ≤ largestNumerator
+  listedLimit-num-le = leb→le (listedLimit order .num) largestNumerator (bounded .0)
 
   pub listedLimit-den-le : listedLimit order .den ≤ largestDenominator
-  unfolding limitOf figureIn ownFigures overOrder whole lowestTerms leastDenominator least
-  listedLimit-den-le =
-      leb→le _ _
-      (pass-below (λ h. leb (listedLimit h .den) largestDenominator) (suc orderCount) tt order (omega (arith, limited-le)))
+  listedLimit-den-le = leb→le (listedLimit order .den) largestDenominator (bounded .1)
 
--- it is equal to the rule's, by cross products
+-- the listed limit is equal to the rule's, by cross products
 pub listedLimit-equal : (order : ℕ) → listedLimit order ≈ᶠ limitOf order
 listedLimit-equal order = lowestTerms-≈ᶠ (limitOf order)

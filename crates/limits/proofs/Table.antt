@@ -16,8 +16,8 @@ use Rattle.limits.proofs.Limits.{limited-ge, limited-le, listedLimit-eq
 abbrev pub sameRow : LimitRow → LimitRow → Bool
 sameRow row other = eqb (row .0) (other .0) && (eqb (row .1) (other .1) && eqb (row .2) (other .2))
 
-pub same-row : (row other : LimitRow) → T (sameRow row other) → row ≡ other
-same-row row other t =
+pub sameRow-eq : (row other : LimitRow) → T (sameRow row other) → row ≡ other
+sameRow-eq row other t =
     let order-and-limit = both-pass (eqb (row .0) (other .0)) _ t in
     let num-and-den = both-pass (eqb (row .1) (other .1)) _ (order-and-limit .1) in
     let order-is : row .0 ≡ other .0 = eqb→eq _ _ (order-and-limit .0) in

@@ -3,14 +3,13 @@ use mathlib.Core.Path.{_≡_}
 use mathlib.Core.Bool.{true}
 use Prim.Native.Nat.{ℕ, _+_, _≤_, _<_}
 use native.Mathlib.Omega.{arith}
-use lib.Dec.{ltb}
-use borrow.Author.Tests.{leb-true, ltb-true, lt-ltb, le-leb}
-use Rattle.algebra.proofs.Tests.{and-left, and-right}
+use borrow.Author.Tests.{lt-ltb, le-leb}
+use Rattle.algebra.proofs.Tests.{leb-range}
 use Rattle.rows.specs.Orders.{isOrder, orderCount}
 
 pub order-bounds : (h : ℕ) → isOrder h ≡ true → (1 ≤ h) × (h ≤ orderCount)
 unfolding isOrder
-order-bounds h e = (ltb-true 0 h (and-left _ _ e), leb-true h orderCount (and-right (ltb 0 h) _ e))
+order-bounds h e = leb-range 1 h orderCount e
 
 -- the order at a place of a row
 pub order-of-place : (i : ℕ) → i < orderCount → isOrder (i + 1) ≡ true

@@ -1,13 +1,13 @@
 -- What a verdict says, for the theorems above it: what is known of a call that is not refused, and how the average and the peak lie to their limits in each of the three cases.
-use mathlib.Core.Path.{_≡_, refl, sym}
-use mathlib.Core.Bool.{Bool, true, false, true≢false, not, cond, _&&_, _||_}
+use mathlib.Core.Path.{_≡_, refl}
+use mathlib.Core.Bool.{Bool, true, false, cond, _&&_, _||_}
 use mathlib.Core.Logic.{_⊎_, inl, inr, ⊎-map}
 use Prim.Native.Nat.{ℕ, _≤_, _<_}
 use native.Mathlib.Nat.{mul-one}
 use native.Mathlib.Omega.{arith}
-use lib.Dec.{leb}
 use borrow.Author.Tests.{leb-true, leb-false, eqb-false, not-true, not-false}
 use Rattle.algebra.specs.Fraction.{Fraction, whole, _+ᶠ_, _≤ᶠ_, _<ᶠ_}
+use Rattle.algebra.proofs.Tests.{leb-range}
 use Rattle.rows.specs.Orders.{orderCount}
 use Rattle.refusals.specs.Numbers.{noRefusal, unsoundRecord, noWindow, orderOutOfRange, scaleOutOfRange}
 use Rattle.refusals.proofs.Answers.{no-faults}
@@ -39,15 +39,6 @@ pub record Accepted (o : Observation) (q : Question) : Type 0 where
   pub scale-ge : 1 ≤ q .scale
   pub scale-le : q .scale ≤ largestScale
 
--- a number that is not outside a range
-inside : (least number most : ℕ) → not (leb least number && leb number most) ≡ false → (least ≤ number) × (number ≤ most)
-inside least number most e = go (leb least number) (leb number most) refl refl (not-false _ e)
-  where
-    go : (low high : Bool) → leb least number ≡ low → leb number most ≡ high → low && high ≡ true → (least ≤ number) × (number ≤ most)
-    go true true p q e = (leb-true _ _ p, leb-true _ _ q)
-    go true false p q e = absurd (true≢false (sym e))
-    go false high p q e = absurd (true≢false (sym e))
-
 module _ (o : Observation) (q : Question) (passed : verdictRefusal o q ≡ noRefusal) where
   pub accepted : Accepted o q
   unfolding verdictRefusal
@@ -55,7 +46,7 @@ module _ (o : Observation) (q : Question) (passed : verdictRefusal o q ≡ noRef
       let no-fault = no-faults (verdictChecks o q) refl passed in
       let some = eqb-false (o .windows) 0 (no-fault noWindow) in
       let limited : hasLimit (q .order) ≡ true = not-false _ (no-fault orderOutOfRange) in
-      let scales = inside 1 (q .scale) largestScale (no-fault scaleOutOfRange) in
+      let scales = leb-range 1 (q .scale) largestScale (not-false _ (no-fault scaleOutOfRange)) in
       record {
         sound = not-false _ (no-fault unsoundRecord);
         some-window = omega arith;

@@ -27,11 +27,11 @@ use Rattle.observation.specs.RecordAfter.{recordAfter}
 use Rattle.spectrum.specs.Line.{windowAt}
 use Rattle.spectrum.specs.Spectrum.{outOfRange}
 use Rattle.observe.specs.Observe.{windowRows, observeChecks, observeRefusal}
+use Rattle.fractions.specs.Parts.{raised, atMost}
 use Rattle.limits.specs.Limit.{ownFigures, figureIn, limitOf, overOrder}
 use Rattle.limits.specs.Call.{limitRefusal}
 use Rattle.verdict.specs.Question.{asked}
 use Rattle.verdict.specs.Limit.{limitInUnits, peakLimitInUnits}
-use Rattle.fractions.specs.Parts.{raised, atMost}
 use Rattle.verdict.specs.Tests.{isWithin, isOver}
 use Rattle.verdict.specs.Call.{combined, verdictOf, verdictRefusal}
 use Rattle.observation.specs.Average.{averageOf, peakOf}

@@ -21,10 +21,10 @@ use Rattle.rows.specs.declared.Row.{Row}
 use Rattle.observation.specs.Book.{Book}
 use Rattle.observation.specs.Smoothing.{reported}
 use Rattle.observation.specs.Calls.{bookAt}
+use Rattle.limits.specs.Limit.{ownFigures, figureIn, limitOf, overOrder}
 use Rattle.verdict.specs.declared.Verdict.{Verdict}
 use Rattle.verdict.specs.declared.Verdict.the-variants.{Within, Close, Over}
 use Rattle.verdict.specs.Question.{asked}
-use Rattle.limits.specs.Limit.{ownFigures, figureIn, limitOf, overOrder}
 use Rattle.verdict.specs.Limit.{limitInUnits, peakLimitInUnits}
 use Rattle.accuracy.specs.Distance.{InRange, GroupsNear}
 use Rattle.accuracy.specs.CallList.{CallList, after, state}

@@ -28,9 +28,9 @@ use Rattle.observation.specs.Smoothing.{smoothedValue}
 use Rattle.observation.specs.Soundness.{noneAbove, allZero, isSound}
 use Rattle.observation.specs.Calls.{emptyRecord, freshRefusal, freshAnswer, bookAt, nextBook, withRow, rowChecks, addRowRefusal, addRowAnswer}
 use Rattle.observation.specs.RecordAfter.{recordAfter}
+use Rattle.fractions.specs.Parts.{raised, atMost}
 use Rattle.limits.specs.Limit.{ownFigures, figureIn, limitOf, overOrder}
 use Rattle.verdict.specs.Limit.{limitInUnits, peakLimitInUnits}
-use Rattle.fractions.specs.Parts.{raised, atMost}
 use Rattle.verdict.specs.Tests.{isWithin, isOver}
 use Rattle.verdict.specs.Call.{combined, verdictOf, verdictRefusal, verdictAnswer}
 use Rattle.observation.specs.Average.{averageOf, peakOf}
