@@ -14,7 +14,7 @@ use Rattle.accuracy.specs.CallList.{CallList, after, reportedFrom}
 use Rattle.accuracy.specs.Claim.{WorkedList, reportedBook, ListHolds, Demand3Holds}
 use Rattle.accuracy.proofs.GroupDistance.{groups-near}
 use Rattle.accuracy.proofs.WorkedRows.{worked-list-fits, order-book-near}
-use Rattle.accuracy.proofs.Verdicts.{given-verdict}
+use Rattle.accuracy.proofs.Verdicts.{verdict-keeps, given-verdict}
 use Rattle.accuracy.proofs.ObservedRows.{observed-system, observed-record, observed-windows, observed-worked}
 
 module _ (kind : Kind) (list : CallList) (known : isSystem (list .system) ≡ true) (worked : WorkedList kind list) where
@@ -41,10 +41,10 @@ module _ (kind : Kind) (list : CallList) (known : isSystem (list .system) ≡ tr
         verdicts = λ q asked.
             let call = accepted (after list) q asked in
             let positive : 0 < q .order = omega arith in
-            given-verdict kind list q
+            given-verdict kind list q asked
+            (verdict-keeps kind list _ (q .order) (q .scale)
             (λ side. order-book-near side kind list (q .order) positive (call .order-le))
-            (books-kept (q .order) positive (call .order-le))
-            asked;
+            (books-kept (q .order) positive (call .order-le)));
       }
 
 pub demand3 : Demand3Holds

@@ -1,4 +1,4 @@
--- What a verdict keeps (document 01, "Class A verdicts"), from how near the exact books are to the reported one.
+-- What a verdict keeps in each class (document 01, "Class A verdicts"; document 02, card 1), from how near the exact books are to the reported one.
 -- The averages are within the margin, since the sums are within it for each window; the margin in the verdict's tests is then enough for every exact book.
 use mathlib.Core.Path.{_≡_, subst}
 use mathlib.Core.Logic.{⊎-elim, ⊎-map}
@@ -13,11 +13,13 @@ use Rattle.observation.specs.Book.{Book}
 use Rattle.observation.specs.Smoothing.{reported, smoothedMargin}
 use Rattle.observation.specs.Average.{averageOf, peakOf}
 use Rattle.observation.specs.Calls.{bookAt}
+use Rattle.limits.specs.declared.Class.{Class}
+use Rattle.limits.specs.Letters.{classWith}
 use Rattle.verdict.specs.declared.Question.{Question}
 use Rattle.verdict.specs.declared.Verdict.{Verdict}
 use Rattle.verdict.specs.declared.Verdict.the-variants.{Within, Close, Over}
 use Rattle.verdict.specs.Limit.{limitInUnits, peakLimitInUnits}
-use Rattle.verdict.specs.Call.{verdictRefusal, verdictOf}
+use Rattle.verdict.specs.Call.{verdictRefusal, verdictIn, verdictOf}
 use Rattle.verdict.proofs.Verdicts.{Says, verdict-says, verdict-order, accepted-given}
 use Rattle.accuracy.specs.ExactBook.{exact}
 use Rattle.accuracy.specs.Rule.{exactAverage, reportedAverage, PeakExceeds}
@@ -33,33 +35,33 @@ average-near kept book exactBook near =
     rw (near .same-count)
     (near-divide (max (book .count) 1) kept _ (near-weaken (mul-le-mul-right kept (omega arith)) (near .sum-near)))
 
-module _ (kind : Kind) (list : CallList) (q : Question) where
+module _ (kind : Kind) (list : CallList) (class : Class) (order scale : ℕ) where
   -- the limits of the two tests
   abbrev limit : Fraction
-  limit = limitInUnits q
+  limit = limitInUnits class order scale
 
   abbrev peakLimit : Fraction
-  peakLimit = peakLimitInUnits q
+  peakLimit = peakLimitInUnits class order scale
 
   -- "every" stands inside each side of over: one u book that is not over on the average shows that every u book is over on the peak
   over-every-peak :
       (h : ℕ) →
-      Keeps kind list q (Over h) →
-      (book other : UBook kind list (q .order)) →
+      Keeps kind list class order scale (Over h) →
+      (book other : UBook kind list order) →
       exactAverage (state list book) ≤ᶠ limit →
-      PeakExceeds q (state list other)
+      PeakExceeds class order scale (state list other)
   unfolding Keeps
   over-every-peak h keeps book other le = ⊎-elim (λ over. absurd (omega (arith, over book))) (λ over. over other) keeps
 
   -- what a verdict says of a book's average and peak
   abbrev SaysOf : Book reported → Verdict → Type 0
-  SaysOf book = Says q (reportedAverage book) (whole (book .peak))
+  SaysOf book = Says limit peakLimit (reportedAverage book) (whole (book .peak))
 
   module _
-      (near : (side : Side) (book : ExactBook list (Feeds side kind (q .order))) →
-      BookNear side smoothedMargin (reportedBook list (q .order)) (state list book))
+      (near : (side : Side) (book : ExactBook list (Feeds side kind order)) →
+      BookNear side smoothedMargin (reportedBook list order) (state list book))
     where
-      says-keeps : (verdict : Verdict) → SaysOf (reportedBook list (q .order)) verdict → Keeps kind list q verdict
+      says-keeps : (verdict : Verdict) → SaysOf (reportedBook list order) verdict → Keeps kind list class order scale verdict
       unfolding Keeps
       says-keeps (Within h) says = λ book. (
         near-le-bound limit (average-near _ _ _ (near _ book)) (says .0),
@@ -73,16 +75,24 @@ module _ (kind : Kind) (list : CallList) (q : Question) where
       says-keeps (Close h) says = says
 
       -- the record after the list holds the reported book
-      pub given-verdict :
-          bookAt (after list) (q .order - 1) ≡ reportedBook list (q .order) →
-          verdictRefusal (after list) q ≡ noRefusal →
-          GivenVerdict kind list q
+      pub verdict-keeps :
+          bookAt (after list) (order - 1) ≡ reportedBook list order →
+          Keeps kind list class order scale (verdictIn class (after list) order scale)
       unfolding averageOf peakOf bookAt
-      given-verdict same asked =
-          let o = after list in
-          record {
-            verdict = verdictOf o q;
-            given = accepted-given o q asked;
-            of-order = verdict-order o q;
-            kept = says-keeps _ (subst (λ book. SaysOf book (verdictOf o q)) same (verdict-says o q));
-          }
+      verdict-keeps same =
+          let verdict = verdictIn class (after list) order scale in
+          says-keeps _ (subst (λ book. SaysOf book verdict) same (verdict-says class (after list) order scale))
+
+-- the verdict of a call that is not refused, in the class that its letter names
+pub given-verdict :
+    (kind : Kind) (list : CallList) (q : Question) →
+    verdictRefusal (after list) q ≡ noRefusal →
+    Keeps kind list (classWith (q .letter)) (q .order) (q .scale) (verdictOf (after list) q) →
+    GivenVerdict kind list q
+given-verdict kind list q asked kept =
+    record {
+      verdict = verdictOf (after list) q;
+      given = accepted-given (after list) q asked;
+      of-order = verdict-order (classWith (q .letter)) (after list) (q .order) (q .scale);
+      kept = kept;
+    }

@@ -1,5 +1,5 @@
 -- A worked list of calls, with a refused one between two accepted ones. It meets the hypotheses of demand 3 for every kind and any two windows in range.
--- Of the pulse's harmonic groups, document 01's 8944, the third order is then judged over, close and within at K = 3883, 3884 .. 3893 and 3894.
+-- Of the pulse's harmonic groups, document 01's 8944, the third order is then judged over, close and within at K = 3883, 3884 .. 3893 and 3894 in class A, and at K = 2588, 2589 .. 2595 and 2596 in class B.
 use mathlib.Core.Path.{_≡_, refl, sym, ap, subst, _∙_}
 use mathlib.Core.List.{List, [], _∷_}
 use Prim.Native.Nat.{ℕ, _-_}
@@ -28,13 +28,14 @@ use Rattle.observation.specs.Smoothing.{smoothedValue, reported}
 use Rattle.observation.specs.Calls.{rowChecks, bookAt}
 use Rattle.observation.specs.BookCalls.{accepts, EachAccepted, bookCall, bookAfter, ownValues}
 use Rattle.fractions.specs.Parts.{parts, raised, atMost}
-use Rattle.limits.specs.Limit.{ownFigures, figureIn, limitOf, overOrder}
+use Rattle.limits.specs.declared.Class.{Class}
+use Rattle.limits.specs.declared.Class.the-variants.{A, B}
+use Rattle.limits.specs.Limit.{ownFigures, figureIn, classALimit, limitOf, overOrder}
 use Rattle.verdict.specs.declared.Verdict.{Verdict}
 use Rattle.verdict.specs.declared.Verdict.the-variants.{Within, Close, Over}
-use Rattle.verdict.specs.Question.{asked}
 use Rattle.verdict.specs.Limit.{limitInUnits, peakLimitInUnits}
 use Rattle.verdict.specs.Tests.{isWithin, isOver}
-use Rattle.verdict.specs.Call.{combined, verdictOf}
+use Rattle.verdict.specs.Call.{combined, verdictIn}
 use Rattle.observation.specs.Average.{averageOf, peakOf}
 use Rattle.accuracy.specs.Distance.{EveryOrder, InRange, valueOf}
 use Rattle.accuracy.specs.Rule.{reportedAverage}
@@ -99,25 +100,40 @@ pulse-book : bookAt pulsed 2 ≡ record { count = 2; smoothed = 8944; sum = 1788
 unfolding reportedFrom bookAfter bookCall ownValues accepts rowChecks isSystem exampleList workedRow otherSystemRow bookStep emptyBook smoothedNext smoothedValue nearest tabulate groupValues
 pulse-book = example-books HarmonicGroup pulse pulse pulse-window pulse-window 3 (omega arith) (omega arith) ∙ rw pulse-group
 
--- 2.3 × K is 8930.9, 8933.2, 8953.9 and 8956.2, and 150 % of each is above the peak with the margin
+-- what is said of the third order then
+abbrev pulseVerdict : Class → ℕ → Verdict
+pulseVerdict class scale = verdictIn class pulsed 3 scale
+
+-- 2.3 × K is 8930.9, 8933.2, 8953.9 and 8956.2 in class A, and 3.45 × K is 8928.6, 8932.05, 8952.75 and 8956.2 in class B; 150 % of each is above the peak with the margin
 pulse-verdicts :
-    (verdictOf pulsed (asked 3 3883) ≡ Over 3) ×
-    (verdictOf pulsed (asked 3 3884) ≡ Close 3) ×
-    (verdictOf pulsed (asked 3 3893) ≡ Close 3) ×
-    (verdictOf pulsed (asked 3 3894) ≡ Within 3)
-unfolding verdictOf averageOf peakOf bookAt combined raised atMost isOver isWithin limitInUnits peakLimitInUnits limitOf figureIn ownFigures overOrder whole times divide
+    (pulseVerdict A 3883 ≡ Over 3) ×
+    (pulseVerdict A 3884 ≡ Close 3) ×
+    (pulseVerdict A 3893 ≡ Close 3) ×
+    (pulseVerdict A 3894 ≡ Within 3) ×
+    (pulseVerdict B 2588 ≡ Over 3) ×
+    (pulseVerdict B 2589 ≡ Close 3) ×
+    (pulseVerdict B 2595 ≡ Close 3) ×
+    (pulseVerdict B 2596 ≡ Within 3)
+unfolding verdictIn averageOf peakOf bookAt combined raised atMost isOver isWithin limitInUnits peakLimitInUnits limitOf classALimit figureIn ownFigures overOrder whole times divide
 pulse-verdicts =
     subst
     (λ (book : Book reported).
-    (judged book 3883 ≡ Over 3) × (judged book 3884 ≡ Close 3) × (judged book 3893 ≡ Close 3) × (judged book 3894 ≡ Within 3))
+    (judged book A 3883 ≡ Over 3) ×
+    (judged book A 3884 ≡ Close 3) ×
+    (judged book A 3893 ≡ Close 3) ×
+    (judged book A 3894 ≡ Within 3) ×
+    (judged book B 2588 ≡ Over 3) ×
+    (judged book B 2589 ≡ Close 3) ×
+    (judged book B 2595 ≡ Close 3) ×
+    (judged book B 2596 ≡ Within 3))
     (sym pulse-book)
-    (refl, refl, refl, refl)
+    (refl, refl, refl, refl, refl, refl, refl, refl)
   where
-    judged : Book reported → ℕ → Verdict
-    judged book scale =
+    judged : Book reported → Class → ℕ → Verdict
+    judged book class scale =
         combined
         (parts (reportedAverage book))
-        (parts (limitInUnits (asked 3 scale)))
+        (parts (limitInUnits class 3 scale))
         (parts (whole (book .peak)))
-        (parts (peakLimitInUnits (asked 3 scale)))
+        (parts (peakLimitInUnits class 3 scale))
         3

@@ -1,4 +1,4 @@
--- Demand 3 as one claim about a list of add row calls as a whole (document 01, "The list" and "Class A verdicts").
+-- Demand 3 as one claim about a list of add row calls as a whole (document 01, "The list" and "Class A verdicts"), its verdicts in every class (document 02, card 1).
 use mathlib.Core.Path.{_≡_}
 use mathlib.Core.Bool.{true}
 use mathlib.Core.Logic.{_⊎_}
@@ -18,6 +18,8 @@ use Rattle.observation.specs.Smoothing.{reported, smoothedMargin}
 use Rattle.observation.specs.Calls.{bookAt}
 use Rattle.observation.specs.BookCalls.{EachAccepted, Fed, valueAt}
 use Rattle.observe.specs.Observe.{windowRows, observeRefusal, observeAnswer}
+use Rattle.limits.specs.declared.Class.{Class}
+use Rattle.limits.specs.Letters.{classWith}
 use Rattle.verdict.specs.declared.Question.{Question}
 use Rattle.verdict.specs.declared.Verdict.{Verdict}
 use Rattle.verdict.specs.declared.Verdict.the-variants.{Within, Close, Over}
@@ -57,21 +59,21 @@ module _ (kind : Kind) (list : CallList) where
   abbrev pub UBook : ℕ → Type 0
   UBook order = ExactBook list (Feeds upper kind order)
 
-  -- what each verdict claims of the exact books, or of the reported one
-  unfoldable pub Keeps : Question → Verdict → Type 0
-  Keeps q (Within h) = (book : LBook (q .order)) → Passes q (state list book)
-  Keeps q (Over h) =
-      ((book : UBook (q .order)) → AverageExceeds q (state list book)) ⊎
-      ((book : UBook (q .order)) → PeakExceeds q (state list book))
-  Keeps q (Close h) =
-      AverageTouches q (reportedBook list (q .order)) ⊎ PeakTouches q (reportedBook list (q .order))
+  -- what each verdict claims of the exact books, or of the reported one, in a class
+  unfoldable pub Keeps : (class : Class) (order scale : ℕ) → Verdict → Type 0
+  Keeps class order scale (Within h) = (book : LBook order) → Passes class order scale (state list book)
+  Keeps class order scale (Over h) =
+      ((book : UBook order) → AverageExceeds class order scale (state list book)) ⊎
+      ((book : UBook order) → PeakExceeds class order scale (state list book))
+  Keeps class order scale (Close h) =
+      AverageTouches class order scale (reportedBook list order) ⊎ PeakTouches class order scale (reportedBook list order)
 
-  -- a verdict is given, for the order that was asked, and it keeps its claim
+  -- a verdict is given, for the order that was asked, and it keeps its claim in the class that the letter names
   pub record GivenVerdict (q : Question) : Type 0 where
     pub verdict : Verdict
     pub given : verdictAnswer (after list) q ≡ Given verdict
     pub of-order : orderNumber verdict ≡ q .order
-    pub kept : Keeps q verdict
+    pub kept : Keeps (classWith (q .letter)) (q .order) (q .scale) verdict
 
   -- what holds after a list of calls, and of the verdicts then asked
   pub record ListHolds : Type 0 where
@@ -83,7 +85,7 @@ module _ (kind : Kind) (list : CallList) where
         (book : LBook order) → state list book .smoothed ≤ᶠ whole (reportedBook list order .smoothed + smoothedMargin))
     pub smoothed-high : EveryOrder (λ order.
         (book : UBook order) → whole (reportedBook list order .smoothed) ≤ᶠ state list book .smoothed +ᶠ whole smoothedMargin)
-    -- for every order and K that is not refused one of the three verdicts is given and keeps its claim
+    -- for every order, class and K that is not refused one of the three verdicts is given and keeps its claim
     pub verdicts : (q : Question) → verdictRefusal (after list) q ≡ noRefusal → GivenVerdict q
 
 -- Windows back to back that `observe` takes: the calls that it makes are a list of document 01, the row of each window in turn. Its rows are worked from samples, so no hypothesis is left.

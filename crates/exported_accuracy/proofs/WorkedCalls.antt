@@ -40,10 +40,11 @@ module _ (kind : Kind) (window next : List ℤ) where
       lendingAll (observeWindows 5 12 [] 0 0) ∷
       lendingAll (observeWindows 1 12 [] 0 1) ∷
       lendingAll (addRow 10 (groupValues kind 10 (linesOf window))) ∷
-      -- another system, 39 values, a verdict, a fresh record of no system and 121 words change nothing
+      -- another system, 39 values, a verdict in each class, a fresh record of no system and 121 words change nothing
       lendingAll (addRow 12 (replicate orderCount 1)) ∷
       lendingAll (addRow 10 (replicate 39 1)) ∷
-      lendingAll (askVerdict (asked 3 1000000)) ∷
+      lendingAll (askVerdict (asked 3 65 1000000)) ∷
+      lendingAll (askVerdict (asked 3 66 1000000)) ∷
       lendingAll (freshRecord 0) ∷
       record { lent = 121; asked = freshRecord 12 } ∷
       lendingAll (addRow 10 (groupValues kind 10 (linesOf next))) ∷

@@ -10,6 +10,7 @@ use Rattle.refusals.specs.Numbers.{noRefusal}
 use Rattle.spectrum.specs.Line.{windowAt}
 use Rattle.spectrum.specs.Spectrum.{spectrumRefusal, spectrumExit}
 use Rattle.groups.specs.declared.Kind.{Kind}
+use Rattle.limits.specs.Letters.{classWith}
 use Rattle.verdict.specs.declared.Question.{Question}
 use Rattle.verdict.specs.declared.Verdict.{Verdict}
 use Rattle.observation.specs.Smoothing.{smoothedMargin}
@@ -34,7 +35,7 @@ pub record CalledVerdict (kind : Kind) (list : CallList) (words : List ℕ) (q :
   pub verdict : Verdict
   pub of-order : orderNumber verdict ≡ q .order
   pub number : (before : ℕ) → verdictCallExit words q before ≡ verdictNumber verdict
-  pub kept : Keeps kind list q verdict
+  pub kept : Keeps kind list (classWith (q .letter)) (q .order) (q .scale) verdict
 
 -- what some words hold after a list of document 01
 pub record WordsHold (kind : Kind) (list : CallList) (words : List ℕ) : Type 0 where

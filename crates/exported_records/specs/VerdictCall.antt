@@ -1,4 +1,4 @@
--- What the call for the verdict of an order answers: document 01, "Class A verdicts", after the call's own check. The record goes in as words.
+-- What the call for the verdict of an order in a class answers: document 01, "Class A verdicts", and document 02, card 1, after the call's own check. The record goes in as words.
 use mathlib.Core.List.{List, [], _∷_}
 use Prim.Native.Nat.{ℕ}
 use Rattle.refusals.specs.Answers.{unlessRefused}

@@ -39,16 +39,27 @@ fn hand_over_verdict(answer: VerdictAnswer, verdict: &mut u32) -> u32
     }
 }
 
-// Writes the number of the verdict of an order.
+// Writes the number of the verdict of an order in a class.
 #[no_mangle]
-pub extern "C" fn kifsang_verdict(words: &[u64], order: u32, scale: u32, verdict: &mut u32) -> u32
-    ensures { λ r. ⌜ r ≡ verdictCallRefusal (now (words .entry)) (asked order scale) ⌝ }
-    ensures { λ _. ⌜ now (verdict .exit) ≡ verdictCallExit (now (words .entry)) (asked order scale) (now (verdict .entry)) ⌝ }
+pub extern "C" fn kifsang_verdict(
+    words: &[u64],
+    order: u32,
+    letter: u8,
+    scale: u32,
+    verdict: &mut u32,
+) -> u32
+    ensures { λ r. ⌜ r ≡ verdictCallRefusal (now (words .entry)) (asked order letter scale) ⌝ }
+    ensures { λ _. ⌜ now (verdict .exit) ≡ verdictCallExit (now (words .entry)) (asked order letter scale) (now (verdict .entry)) ⌝ }
 {
     let own = fault_or(words.len() != RECORD_WORDS, WRONG_WORD_COUNT, NO_REFUSAL);
     if own != NO_REFUSAL {
         return own;
     }
-    let answer = order_verdict(read_record(words), Question { order, scale });
+    let question = Question {
+        order,
+        letter,
+        scale,
+    };
+    let answer = order_verdict(read_record(words), question);
     hand_over_verdict(answer, verdict)
 }

@@ -1,4 +1,5 @@
 -- The theorems of the limits.
+pub mod ClassLetters
 pub mod Limits
 pub mod Table
 pub mod Worked

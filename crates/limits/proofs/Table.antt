@@ -9,7 +9,8 @@ use Rattle.algebra.proofs.Computed.{both-pass}
 use Rattle.algebra.proofs.Lists.{getD-tabulate}
 use Rattle.rows.specs.Orders.{orderCount}
 use Rattle.limits.specs.declared.limit_table.LimitRow.{LimitRow}
-use Rattle.limits.specs.Limit.{firstLimited, hasLimit, limitOf, limitRow, limitRows}
+use Rattle.limits.specs.declared.Class.the-variants.{A}
+use Rattle.limits.specs.Limit.{firstLimited, hasLimit, classALimit, limitOf, limitRow, limitRows}
 use Rattle.limits.proofs.Limits.{limited-ge, limited-le, listedLimit-equal}
 
 -- two rows show the same order and the same limit
@@ -35,8 +36,9 @@ module _ (order : ℕ) (has-limit : hasLimit order ≡ true) (other : LimitRow) 
       getD-tabulate (orderCount + 1 - firstLimited) (λ place. limitRow (place + firstLimited)) (order - firstLimited) other (omega arith)
       ∙ ap limitRow placed
 
-  -- each row is equal to the rule, by cross products
+  -- each row is equal to document 01's rule, by cross products
   pub limitRows-equal :
-      getD limitRows (order - firstLimited) other .1 * limitOf order .den
-      ≡ limitOf order .num * getD limitRows (order - firstLimited) other .2
-  limitRows-equal = rw limitRows-at (listedLimit-equal order)
+      getD limitRows (order - firstLimited) other .1 * classALimit order .den
+      ≡ classALimit order .num * getD limitRows (order - firstLimited) other .2
+  unfolding limitOf
+  limitRows-equal = rw limitRows-at (listedLimit-equal A order)

@@ -1,10 +1,12 @@
--- The worked numbers of the limits: document 01's rule at every order, and what the call answers, refused answers entire.
+-- The worked numbers of the limits: document 01's rule at every order, class B's limits of the same orders, and what the call answers, refused answers entire.
 use mathlib.Core.Path.{_≡_, refl}
 use mathlib.Core.List.{List, [], _∷_, map}
 use Prim.Native.Nat.{ℕ}
-use Rattle.algebra.specs.Fraction.{whole}
+use Rattle.algebra.specs.Fraction.{whole, times, divide}
 use Rattle.algebra.specs.LowestTerms.{least, leastDenominator, lowestTerms}
-use Rattle.limits.specs.Limit.{ownFigures, overOrder, figureIn, limitOf}
+use Rattle.limits.specs.declared.Class.the-variants.{B}
+use Rattle.limits.specs.Letters.{letterOf, isClass, classWith}
+use Rattle.limits.specs.Limit.{ownFigures, overOrder, figureIn, classALimit, limitOf, listedLimit}
 use Rattle.limits.specs.Call.{limitRefusal, limitAnswer}
 
 -- ---- document 01's rule
@@ -53,31 +55,103 @@ ruleCases =
     (40, 1840, 40) ∷
     []
 
-rule-worked : map (λ row. (row .0, limitOf (row .0) .num, limitOf (row .0) .den)) ruleCases ≡ ruleCases
-unfolding ruleCases limitOf figureIn ownFigures overOrder whole
+rule-worked : map (λ row. (row .0, classALimit (row .0) .num, classALimit (row .0) .den)) ruleCases ≡ ruleCases
+unfolding ruleCases classALimit figureIn ownFigures overOrder whole
 rule-worked = refl
+
+-- ---- class B
+
+-- an order, and its limit in class B, in lowest terms: 150 % of class A's figures, which are printed in amperes, and of 0.15 x 15/n and 0.23 x 8/n
+classBCases : List (ℕ × ℕ × ℕ)
+classBCases =
+    (2, 1620, 1) ∷
+    (3, 3450, 1) ∷
+    (4, 645, 1) ∷
+    (5, 1710, 1) ∷
+    (6, 450, 1) ∷
+    (7, 1155, 1) ∷
+    (8, 345, 1) ∷
+    (9, 600, 1) ∷
+    (10, 276, 1) ∷
+    (11, 495, 1) ∷
+    (12, 230, 1) ∷
+    (13, 315, 1) ∷
+    (14, 1380, 7) ∷
+    (15, 225, 1) ∷
+    (16, 345, 2) ∷
+    (17, 3375, 17) ∷
+    (18, 460, 3) ∷
+    (19, 3375, 19) ∷
+    (20, 138, 1) ∷
+    (21, 1125, 7) ∷
+    (22, 1380, 11) ∷
+    (23, 3375, 23) ∷
+    (24, 115, 1) ∷
+    (25, 135, 1) ∷
+    (26, 1380, 13) ∷
+    (27, 125, 1) ∷
+    (28, 690, 7) ∷
+    (29, 3375, 29) ∷
+    (30, 92, 1) ∷
+    (31, 3375, 31) ∷
+    (32, 345, 4) ∷
+    (33, 1125, 11) ∷
+    (34, 1380, 17) ∷
+    (35, 675, 7) ∷
+    (36, 230, 3) ∷
+    (37, 3375, 37) ∷
+    (38, 1380, 19) ∷
+    (39, 1125, 13) ∷
+    (40, 69, 1) ∷
+    []
+
+class-B-worked : map (λ row. (row .0, listedLimit B (row .0) .num, listedLimit B (row .0) .den)) classBCases ≡ classBCases
+unfolding classBCases limitOf classALimit figureIn ownFigures overOrder whole times divide lowestTerms leastDenominator least
+class-B-worked = refl
 
 -- ---- the call
 
--- an order, and what it is answered: the refusal, the numerator and the denominator
-answerCases : List (ℕ × ℕ × ℕ × ℕ)
+-- an order with a class letter, and what they are answered: the refusal, the numerator and the denominator
+answerCases : List (ℕ × ℕ × ℕ × ℕ × ℕ)
 answerCases =
     -- 6: the orders 2..40 have a limit
-    (0, 6, 0, 1) ∷
-    (1, 6, 0, 1) ∷
-    (2, 0, 1080, 1) ∷
-    (40, 0, 46, 1) ∷
-    (41, 6, 0, 1) ∷
-    (4294967295, 6, 0, 1) ∷
+    (0, 65, 6, 0, 1) ∷
+    (1, 65, 6, 0, 1) ∷
+    (2, 65, 0, 1080, 1) ∷
+    (40, 65, 0, 46, 1) ∷
+    (41, 65, 6, 0, 1) ∷
+    (4294967295, 65, 6, 0, 1) ∷
     -- a limit that is whole, one whose parts have a common divisor, and one whose parts have none
-    (8, 0, 230, 1) ∷
-    (12, 0, 460, 3) ∷
-    (39, 0, 750, 13) ∷
-    (37, 0, 2250, 37) ∷
+    (8, 65, 0, 230, 1) ∷
+    (12, 65, 0, 460, 3) ∷
+    (39, 65, 0, 750, 13) ∷
+    (37, 65, 0, 2250, 37) ∷
+    -- so in class B, where three halves share 2 with the numerator, 3 with the denominator, both or none
+    (8, 66, 0, 345, 1) ∷
+    (12, 66, 0, 230, 1) ∷
+    (37, 66, 0, 3375, 37) ∷
+    (32, 66, 0, 345, 4) ∷
+    (1, 66, 6, 0, 1) ∷
+    (2, 66, 0, 1620, 1) ∷
+    (40, 66, 0, 69, 1) ∷
+    (41, 66, 6, 0, 1) ∷
+    -- 15: the letters are A and B, as capitals; C and D, a and b, none and the last byte are no class
+    (3, 0, 15, 0, 1) ∷
+    (3, 64, 15, 0, 1) ∷
+    (3, 67, 15, 0, 1) ∷
+    (3, 68, 15, 0, 1) ∷
+    (3, 97, 15, 0, 1) ∷
+    (3, 98, 15, 0, 1) ∷
+    (3, 255, 15, 0, 1) ∷
+    -- 6 before 15
+    (1, 64, 6, 0, 1) ∷
+    (41, 98, 6, 0, 1) ∷
     []
 
 answers-worked :
-    map (λ row. (row .0, limitAnswer (row .0) .refusal, limitAnswer (row .0) .limit .numerator, limitAnswer (row .0) .limit .denominator)) answerCases
+    map
+    (λ row. let a = limitAnswer (row .0) (row .1) in (row .0, row .1, a .refusal, a .limit .numerator, a .limit .denominator))
+    answerCases
     ≡ answerCases
-unfolding answerCases limitAnswer limitRefusal lowestTerms leastDenominator least limitOf figureIn ownFigures overOrder whole
+unfolding answerCases limitAnswer limitRefusal isClass classWith letterOf lowestTerms leastDenominator least limitOf classALimit figureIn ownFigures overOrder whole times divide
 answers-worked = refl

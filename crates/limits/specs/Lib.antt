@@ -1,3 +1,4 @@
--- The limits of document 01, and what the call for one answers.
+-- The classes, their limits, and what the call for a limit answers.
+pub mod Letters
 pub mod Limit
 pub mod Call

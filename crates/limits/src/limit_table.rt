@@ -1,6 +1,6 @@
 // The constant table of the limits, and its lookup.
-use crate::FIRST_LIMITED;
-use crate::LIMITED_ORDERS;
+use crate::limit::FIRST_LIMITED;
+use crate::limit::LIMITED_ORDERS;
 ghost use mathlib.Core.Bool.{true};
 ghost use mathlib.Core.Path.{_≡_};
 ghost use Rattle.limits.specs.Limit.{hasLimit, limitRow, limitRows};

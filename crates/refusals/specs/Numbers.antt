@@ -1,4 +1,4 @@
--- The refusal numbers of document 01, "Where each refusal is checked", each once for the contracts; src/lib.rt has each once for the code.
+-- The refusal numbers of document 01, "Where each refusal is checked", and of document 02's cards, each once for the contracts; src/lib.rt has each once for the code.
 use Prim.Native.Nat.{ℕ}
 
 -- the call is accepted
@@ -61,6 +61,10 @@ notAColumn = 13
 abbrev pub wrongBufferLength : ℕ
 wrongBufferLength = 14
 
--- no refusal of document 01 has a larger number
+-- class letter other than A or B (document 02, card 1)
+abbrev pub unknownClass : ℕ
+unknownClass = 15
+
+-- no refusal has a larger number
 abbrev pub largestRefusal : ℕ
-largestRefusal = wrongBufferLength
+largestRefusal = unknownClass

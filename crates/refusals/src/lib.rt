@@ -1,4 +1,5 @@
-// The refusal numbers of document 01's table, each once, under a name that says what it refuses.
+// The refusal numbers of document 01's table and of document 02's cards, each once, under a name that says what it
+// refuses.
 // specs/Numbers.antt has the same numbers once for the contracts. A row of checks is a nest of fault_or.
 ghost use mathlib.Core.Bool.{cond};
 ghost use mathlib.Core.Path.{_≡_};
@@ -33,8 +34,10 @@ pub const NO_FUNDAMENTAL: u32 = 12;
 pub const NOT_A_COLUMN: u32 = 13;
 // A text buffer of the wrong length.
 pub const WRONG_BUFFER_LENGTH: u32 = 14;
-// No refusal of document 01 has a larger number.
-pub const LARGEST_REFUSAL: u32 = WRONG_BUFFER_LENGTH;
+// A class letter other than A or B.
+pub const UNKNOWN_CLASS: u32 = 15;
+// No refusal has a larger number.
+pub const LARGEST_REFUSAL: u32 = UNKNOWN_CLASS;
 
 // What a public call answers: NO_REFUSAL with the value, or a refusal's number with 0.
 pub struct Answer {

@@ -1,4 +1,5 @@
--- The theorems of class A verdicts.
+-- The theorems of the verdicts.
 pub mod Worked
 pub mod Limits
 pub mod Verdicts
+pub mod ClassA

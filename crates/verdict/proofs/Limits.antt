@@ -1,4 +1,4 @@
--- A limit from the table in place of document 01's: equal fractions are tested alike, so that no verdict differs.
+-- A listed limit in place of the rule's: equal fractions are tested alike, so that no verdict differs.
 use mathlib.Core.Path.{_≡_, ap}
 use mathlib.Core.Bool.{true, not}
 use Prim.Native.Nat.{ℕ, _*_, _^_, _≤_}
@@ -12,10 +12,10 @@ use Rattle.observation.specs.Smoothing.{smoothedMargin}
 use Rattle.fractions.specs.declared.Fraction.{Fraction as Held}
 use Rattle.fractions.specs.Parts.{parts}
 use Rattle.fractions.proofs.Parts.{Same, parts-same, raised-same, atMost-same}
-use Rattle.limits.specs.Limit.{hasLimit, limitOf, listedLimit}
-use Rattle.limits.proofs.Limits.{largestNumerator, largestDenominator, listedLimit-num-le, listedLimit-den-le, listedLimit-equal}
-use Rattle.verdict.specs.declared.Question.{Question}
-use Rattle.verdict.specs.Limit.{milliamperes, inUnits, threeHalves, limitInUnits, peakLimitInUnits}
+use Rattle.limits.specs.declared.Class.{Class}
+use Rattle.limits.specs.Limit.{hasLimit, threeHalves, limitOf, listedLimit}
+use Rattle.limits.proofs.Limits.{largestNumerator, largestDenominator, listedLimit-le, listedLimit-equal}
+use Rattle.verdict.specs.Limit.{milliamperes, inUnits, limitInUnits, peakLimitInUnits}
 use Rattle.verdict.specs.Tests.{isWithin, isOver}
 use Rattle.verdict.specs.Call.{combined}
 
@@ -50,32 +50,32 @@ combined-same average limit otherLimit peak peakLimit otherPeakLimit order same 
       isWithin-same peak peakLimit otherPeakLimit same-peak,
     )
 
--- ---- the table's limit
+-- ---- the listed limit
 
--- the limit in units that the code works with
-abbrev pub listedInUnits : Question → Fraction
-listedInUnits q = inUnits (q .scale) (listedLimit (q .order))
+module _ (class : Class) (order scale : ℕ) where
+  -- the limit in units that the code works with
+  abbrev pub listedInUnits : Fraction
+  listedInUnits = inUnits scale (listedLimit class order)
 
--- its parts are small enough for 64 bits, and so are three times and twice as much
-pub listedInUnits-num-le : (q : Question) → hasLimit (q .order) ≡ true → Fits w32 (q .scale) → listedInUnits q .num ≤ 2 ^ 32 * largestNumerator
-unfolding times divide
-listedInUnits-num-le q has-limit fits =
-    let scale-le : q .scale ≤ 2 ^ 32 = omega arith in
-    mul-le-mul scale-le (listedLimit-num-le (q .order) has-limit)
+  -- its parts are small enough for 64 bits, and so are three times and twice as much
+  pub listedInUnits-le :
+      hasLimit order ≡ true → Fits w32 scale →
+      (listedInUnits .num ≤ 2 ^ 32 * largestNumerator) × (listedInUnits .den ≤ milliamperes * largestDenominator)
+  unfolding times divide
+  listedInUnits-le has-limit fits =
+      let scale-le : scale ≤ 2 ^ 32 = omega arith in
+      let listed-le = listedLimit-le order has-limit class in
+      (mul-le-mul scale-le (listed-le .0), mul-le-mul-left milliamperes (listed-le .1))
 
-pub listedInUnits-den-le : (q : Question) → hasLimit (q .order) ≡ true → listedInUnits q .den ≤ milliamperes * largestDenominator
-unfolding times divide
-listedInUnits-den-le q has-limit = mul-le-mul-left milliamperes (listedLimit-den-le (q .order) has-limit)
-
--- in its place document 01's limit gives the same verdict
-pub combined-listed :
-    (q : Question) (average peak : Held) →
-    combined average (parts (listedInUnits q)) peak (parts (threeHalves (listedInUnits q))) (q .order)
-    ≡ combined average (parts (limitInUnits q)) peak (parts (peakLimitInUnits q)) (q .order)
-unfolding limitInUnits peakLimitInUnits
-combined-listed q average peak =
-    let limit = inUnits (q .scale) (limitOf (q .order)) in
-    let equal = inUnits-≈ᶠ (q .scale) (listedLimit (q .order)) (limitOf (q .order)) (listedLimit-equal (q .order)) in
-    combined-same average _ _ peak _ _ (q .order)
-    (parts-same (listedInUnits q) limit equal)
-    (parts-same (threeHalves (listedInUnits q)) (threeHalves limit) (threeHalves-≈ᶠ (listedInUnits q) limit equal))
+  -- in its place the rule's limit gives the same verdict
+  pub combined-listed :
+      (average peak : Held) →
+      combined average (parts listedInUnits) peak (parts (threeHalves listedInUnits)) order
+      ≡ combined average (parts (limitInUnits class order scale)) peak (parts (peakLimitInUnits class order scale)) order
+  unfolding limitInUnits peakLimitInUnits
+  combined-listed average peak =
+      let limit = inUnits scale (limitOf class order) in
+      let equal = inUnits-≈ᶠ scale (listedLimit class order) (limitOf class order) (listedLimit-equal class order) in
+      combined-same average _ _ peak _ _ order
+      (parts-same listedInUnits limit equal)
+      (parts-same (threeHalves listedInUnits) (threeHalves limit) (threeHalves-≈ᶠ listedInUnits limit equal))

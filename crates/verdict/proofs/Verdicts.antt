@@ -9,7 +9,7 @@ use borrow.Author.Tests.{leb-true, leb-false, eqb-false, not-true, not-false}
 use Rattle.algebra.specs.Fraction.{Fraction, whole, _+ᶠ_, _≤ᶠ_, _<ᶠ_}
 use Rattle.algebra.proofs.Tests.{leb-range}
 use Rattle.rows.specs.Orders.{orderCount}
-use Rattle.refusals.specs.Numbers.{noRefusal, unsoundRecord, noWindow, orderOutOfRange, scaleOutOfRange}
+use Rattle.refusals.specs.Numbers.{noRefusal, unsoundRecord, noWindow, orderOutOfRange, unknownClass, scaleOutOfRange}
 use Rattle.refusals.proofs.Answers.{no-faults}
 use Rattle.observation.specs.declared.Observation.{Observation}
 use Rattle.observation.specs.Soundness.{isSound}
@@ -17,6 +17,8 @@ use Rattle.observation.specs.Smoothing.{smoothedMargin}
 use Rattle.observation.specs.Average.{averageOf, peakOf}
 use Rattle.fractions.specs.declared.Fraction.{Fraction as Held}
 use Rattle.fractions.specs.Parts.{parts, raised, atMost}
+use Rattle.limits.specs.declared.Class.{Class}
+use Rattle.limits.specs.Letters.{isClass}
 use Rattle.limits.specs.Limit.{firstLimited, hasLimit}
 use Rattle.limits.proofs.Limits.{limited-ge, limited-le}
 use Rattle.verdict.specs.declared.Question.{Question}
@@ -26,7 +28,7 @@ use Rattle.verdict.specs.declared.VerdictAnswer.the-variants.{Given}
 use Rattle.verdict.specs.Question.{largestScale}
 use Rattle.verdict.specs.Limit.{limitInUnits, peakLimitInUnits}
 use Rattle.verdict.specs.Tests.{isWithin, isOver, Touches}
-use Rattle.verdict.specs.Call.{combined, verdictOf, verdictChecks, verdictRefusal, verdictAnswer, orderNumber}
+use Rattle.verdict.specs.Call.{combined, verdictIn, verdictOf, verdictChecks, verdictRefusal, verdictAnswer, orderNumber}
 
 -- ---- a call that is not refused
 
@@ -36,6 +38,7 @@ pub record Accepted (o : Observation) (q : Question) : Type 0 where
   pub has-limit : hasLimit (q .order) ≡ true
   pub order-ge : firstLimited ≤ q .order
   pub order-le : q .order ≤ orderCount
+  pub known-class : isClass (q .letter) ≡ true
   pub scale-ge : 1 ≤ q .scale
   pub scale-le : q .scale ≤ largestScale
 
@@ -53,6 +56,7 @@ module _ (o : Observation) (q : Question) (passed : verdictRefusal o q ≡ noRef
         has-limit = limited;
         order-ge = limited-ge (q .order) limited;
         order-le = limited-le (q .order) limited;
+        known-class = not-false _ (no-fault unknownClass);
         scale-ge = scales .0;
         scale-le = scales .1;
       }
@@ -107,24 +111,26 @@ module _ (average limit peak peakLimit : Held) (order : ℕ) where
       go false false true false e f g h = close e f (inr h)
       go false false false q e f g h = close e f (inl g)
 
--- how an average and a peak lie to the limits of what is asked, in each case
-abbrev pub Says : Question → (average peak : Fraction) → Verdict → Type 0
-Says q average peak (Over h) =
-    (limitInUnits q +ᶠ whole smoothedMargin <ᶠ average) ⊎ (peakLimitInUnits q +ᶠ whole smoothedMargin <ᶠ peak)
-Says q average peak (Within h) =
-    (average +ᶠ whole smoothedMargin ≤ᶠ limitInUnits q) × (peak +ᶠ whole smoothedMargin ≤ᶠ peakLimitInUnits q)
-Says q average peak (Close h) = Touches average (limitInUnits q) ⊎ Touches peak (peakLimitInUnits q)
+-- how an average and a peak lie to their limits, in each case
+abbrev pub Says : (limit peakLimit average peak : Fraction) → Verdict → Type 0
+Says limit peakLimit average peak (Over h) =
+    (limit +ᶠ whole smoothedMargin <ᶠ average) ⊎ (peakLimit +ᶠ whole smoothedMargin <ᶠ peak)
+Says limit peakLimit average peak (Within h) =
+    (average +ᶠ whole smoothedMargin ≤ᶠ limit) × (peak +ᶠ whole smoothedMargin ≤ᶠ peakLimit)
+Says limit peakLimit average peak (Close h) = Touches average limit ⊎ Touches peak peakLimit
 
-module _ (o : Observation) (q : Question) where
-  pub verdict-says : Says q (averageOf o (q .order)) (peakOf o (q .order)) (verdictOf o q)
-  unfolding verdictOf
+module _ (class : Class) (o : Observation) (order scale : ℕ) where
+  pub verdict-says :
+      Says (limitInUnits class order scale) (peakLimitInUnits class order scale) (averageOf o order) (peakOf o order)
+      (verdictIn class o order scale)
+  unfolding verdictIn
   verdict-says =
-      let average = averageOf o (q .order) in
-      let limit = limitInUnits q in
-      let peak = peakOf o (q .order) in
-      let peakLimit = peakLimitInUnits q in
+      let average = averageOf o order in
+      let limit = limitInUnits class order scale in
+      let peak = peakOf o order in
+      let peakLimit = peakLimitInUnits class order scale in
       by-tests _ _ _ _ _
-      (Says q average peak)
+      (Says limit peakLimit average peak)
       (⊎-map (over-gt average limit) (over-gt peak peakLimit))
       (λ e f. (within-le average limit e, within-le peak peakLimit f))
       (λ e f.
@@ -132,6 +138,6 @@ module _ (o : Observation) (q : Question) where
       (λ g. record { not-over = not-over-le average limit e; not-within = not-within-gt average limit g })
       (λ g. record { not-over = not-over-le peak peakLimit f; not-within = not-within-gt peak peakLimit g }))
 
-  pub verdict-order : orderNumber (verdictOf o q) ≡ q .order
-  unfolding verdictOf orderNumber
-  verdict-order = by-tests _ _ _ _ _ (λ v. orderNumber v ≡ q .order) (λ _. refl) (λ _ _. refl) (λ _ _ _. refl)
+  pub verdict-order : orderNumber (verdictIn class o order scale) ≡ order
+  unfolding verdictIn orderNumber
+  verdict-order = by-tests _ _ _ _ _ (λ v. orderNumber v ≡ order) (λ _. refl) (λ _ _. refl) (λ _ _ _. refl)

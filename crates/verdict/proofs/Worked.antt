@@ -1,5 +1,5 @@
--- The worked numbers of the verdicts (document 01, case •9, the edges, and each two neighbouring refusals in one
--- call) and of their cases, each a table of rows and one computed theorem over it.
+-- The worked numbers of the verdicts (document 01, case •9, the edges of both classes, and each two neighbouring
+-- refusals in one call) and of their cases, each a table of rows and one computed theorem over it.
 use mathlib.Core.Path.{_≡_, refl}
 use mathlib.Core.List.{List, [], _∷_, map}
 use Prim.Native.Nat.{ℕ, _-_}
@@ -17,10 +17,11 @@ use Rattle.verdict.specs.declared.VerdictAnswer.{VerdictAnswer}
 use Rattle.verdict.specs.declared.VerdictAnswer.the-variants.{Given, Refused}
 use Rattle.verdict.specs.Question.{asked}
 use Rattle.fractions.specs.Parts.{raised, atMost}
-use Rattle.limits.specs.Limit.{ownFigures, overOrder, figureIn, limitOf}
+use Rattle.limits.specs.Letters.{letterOf, isClass, classWith}
+use Rattle.limits.specs.Limit.{ownFigures, overOrder, figureIn, classALimit, limitOf}
 use Rattle.verdict.specs.Limit.{limitInUnits, peakLimitInUnits}
 use Rattle.verdict.specs.Tests.{isWithin, isOver}
-use Rattle.verdict.specs.Call.{combined, verdictOf, verdictRefusal, verdictAnswer, refusalNumber, orderNumber}
+use Rattle.verdict.specs.Call.{combined, verdictIn, verdictRefusal, verdictAnswer, refusalNumber, orderNumber}
 
 -- ---- the verdicts
 
@@ -41,40 +42,77 @@ oneWindow order value = observed 1 order value value
 verdictCases : List (VerdictAnswer × VerdictAnswer)
 verdictCases =
     -- case •9: the average decides
-    (verdictAnswer (oneWindow 3 2299988) (asked 3 1000000), Given (Within 3)) ∷
-    (verdictAnswer (oneWindow 3 2299989) (asked 3 1000000), Given (Close 3)) ∷
-    (verdictAnswer (oneWindow 3 2300012) (asked 3 1000000), Given (Close 3)) ∷
-    (verdictAnswer (oneWindow 3 2300013) (asked 3 1000000), Given (Over 3)) ∷
+    (verdictAnswer (oneWindow 3 2299988) (asked 3 65 1000000), Given (Within 3)) ∷
+    (verdictAnswer (oneWindow 3 2299989) (asked 3 65 1000000), Given (Close 3)) ∷
+    (verdictAnswer (oneWindow 3 2300012) (asked 3 65 1000000), Given (Close 3)) ∷
+    (verdictAnswer (oneWindow 3 2300013) (asked 3 65 1000000), Given (Over 3)) ∷
     -- the peak decides, against 3450000
-    (verdictAnswer (observed 2 3 4000000 3449988) (asked 3 1000000), Given (Within 3)) ∷
-    (verdictAnswer (observed 2 3 4000000 3449989) (asked 3 1000000), Given (Close 3)) ∷
-    (verdictAnswer (observed 2 3 4000000 3450012) (asked 3 1000000), Given (Close 3)) ∷
-    (verdictAnswer (observed 2 3 4000000 3450013) (asked 3 1000000), Given (Over 3)) ∷
+    (verdictAnswer (observed 2 3 4000000 3449988) (asked 3 65 1000000), Given (Within 3)) ∷
+    (verdictAnswer (observed 2 3 4000000 3449989) (asked 3 65 1000000), Given (Close 3)) ∷
+    (verdictAnswer (observed 2 3 4000000 3450012) (asked 3 65 1000000), Given (Close 3)) ∷
+    (verdictAnswer (observed 2 3 4000000 3450013) (asked 3 65 1000000), Given (Over 3)) ∷
     -- a limit that is not whole: 2250000/39 is above 57692 and below 57693
-    (verdictAnswer (oneWindow 39 57680) (asked 39 1000000), Given (Within 39)) ∷
-    (verdictAnswer (oneWindow 39 57681) (asked 39 1000000), Given (Close 39)) ∷
-    (verdictAnswer (oneWindow 39 57704) (asked 39 1000000), Given (Close 39)) ∷
-    (verdictAnswer (oneWindow 39 57705) (asked 39 1000000), Given (Over 39)) ∷
+    (verdictAnswer (oneWindow 39 57680) (asked 39 65 1000000), Given (Within 39)) ∷
+    (verdictAnswer (oneWindow 39 57681) (asked 39 65 1000000), Given (Close 39)) ∷
+    (verdictAnswer (oneWindow 39 57704) (asked 39 65 1000000), Given (Close 39)) ∷
+    (verdictAnswer (oneWindow 39 57705) (asked 39 65 1000000), Given (Over 39)) ∷
+    -- the peak of such a limit, against 3375000/39, above 86538 and below 86539
+    (verdictAnswer (observed 2 39 100000 86526) (asked 39 65 1000000), Given (Within 39)) ∷
+    (verdictAnswer (observed 2 39 100000 86527) (asked 39 65 1000000), Given (Close 39)) ∷
+    (verdictAnswer (observed 2 39 100000 86550) (asked 39 65 1000000), Given (Close 39)) ∷
+    (verdictAnswer (observed 2 39 100000 86551) (asked 39 65 1000000), Given (Over 39)) ∷
+    -- class B: the average decides, against 3450000; value + 12 equal to the limit and one more, value − 12 equal and one more
+    (verdictAnswer (oneWindow 3 3449988) (asked 3 66 1000000), Given (Within 3)) ∷
+    (verdictAnswer (oneWindow 3 3449989) (asked 3 66 1000000), Given (Close 3)) ∷
+    (verdictAnswer (oneWindow 3 3450012) (asked 3 66 1000000), Given (Close 3)) ∷
+    (verdictAnswer (oneWindow 3 3450013) (asked 3 66 1000000), Given (Over 3)) ∷
+    -- the peak decides, against 5175000, three halves of class B's own limit
+    (verdictAnswer (observed 2 3 6000000 5174988) (asked 3 66 1000000), Given (Within 3)) ∷
+    (verdictAnswer (observed 2 3 6000000 5174989) (asked 3 66 1000000), Given (Close 3)) ∷
+    (verdictAnswer (observed 2 3 6000000 5175012) (asked 3 66 1000000), Given (Close 3)) ∷
+    (verdictAnswer (observed 2 3 6000000 5175013) (asked 3 66 1000000), Given (Over 3)) ∷
+    -- limits that are not whole: 3375000/39 as above, and 5062500/39 above 129807 and below 129808
+    (verdictAnswer (oneWindow 39 86526) (asked 39 66 1000000), Given (Within 39)) ∷
+    (verdictAnswer (oneWindow 39 86527) (asked 39 66 1000000), Given (Close 39)) ∷
+    (verdictAnswer (oneWindow 39 86550) (asked 39 66 1000000), Given (Close 39)) ∷
+    (verdictAnswer (oneWindow 39 86551) (asked 39 66 1000000), Given (Over 39)) ∷
+    (verdictAnswer (observed 2 39 100000 129795) (asked 39 66 1000000), Given (Within 39)) ∷
+    (verdictAnswer (observed 2 39 100000 129796) (asked 39 66 1000000), Given (Close 39)) ∷
+    (verdictAnswer (observed 2 39 100000 129819) (asked 39 66 1000000), Given (Close 39)) ∷
+    (verdictAnswer (observed 2 39 100000 129820) (asked 39 66 1000000), Given (Over 39)) ∷
     -- 6: the orders 2..40 are judged
-    (verdictAnswer (oneWindow 3 0) (asked 1 1000000), Refused 6) ∷
-    (verdictAnswer (oneWindow 3 0) (asked 2 1000000), Given (Within 2)) ∷
-    (verdictAnswer (oneWindow 3 0) (asked 40 1000000), Given (Within 40)) ∷
-    (verdictAnswer (oneWindow 3 0) (asked 41 1000000), Refused 6) ∷
+    (verdictAnswer (oneWindow 3 0) (asked 1 65 1000000), Refused 6) ∷
+    (verdictAnswer (oneWindow 3 0) (asked 2 65 1000000), Given (Within 2)) ∷
+    (verdictAnswer (oneWindow 3 0) (asked 40 65 1000000), Given (Within 40)) ∷
+    (verdictAnswer (oneWindow 3 0) (asked 41 65 1000000), Refused 6) ∷
+    (verdictAnswer (oneWindow 3 0) (asked 1 66 1000000), Refused 6) ∷
+    (verdictAnswer (oneWindow 3 0) (asked 41 66 1000000), Refused 6) ∷
+    -- 15: the letters are A and B, as capitals
+    (verdictAnswer (oneWindow 3 0) (asked 3 64 1000000), Refused 15) ∷
+    (verdictAnswer (oneWindow 3 0) (asked 3 67 1000000), Refused 15) ∷
+    (verdictAnswer (oneWindow 3 0) (asked 3 68 1000000), Refused 15) ∷
+    (verdictAnswer (oneWindow 3 0) (asked 3 97 1000000), Refused 15) ∷
+    (verdictAnswer (oneWindow 3 0) (asked 3 98 1000000), Refused 15) ∷
     -- 11: K is 1..2^28
-    (verdictAnswer (oneWindow 3 0) (asked 3 0), Refused 11) ∷
-    (verdictAnswer (oneWindow 3 0) (asked 3 1), Given (Close 3)) ∷
-    (verdictAnswer (oneWindow 3 0) (asked 3 268435456), Given (Within 3)) ∷
-    (verdictAnswer (oneWindow 3 0) (asked 3 268435457), Refused 11) ∷
+    (verdictAnswer (oneWindow 3 0) (asked 3 65 0), Refused 11) ∷
+    (verdictAnswer (oneWindow 3 0) (asked 3 65 1), Given (Close 3)) ∷
+    (verdictAnswer (oneWindow 3 0) (asked 3 65 268435456), Given (Within 3)) ∷
+    (verdictAnswer (oneWindow 3 0) (asked 3 65 268435457), Refused 11) ∷
+    (verdictAnswer (oneWindow 3 0) (asked 3 66 0), Refused 11) ∷
+    (verdictAnswer (oneWindow 3 0) (asked 3 66 268435456), Given (Within 3)) ∷
+    (verdictAnswer (oneWindow 3 0) (asked 3 66 268435457), Refused 11) ∷
     -- 10: no window yet
-    (verdictAnswer (emptyRecord 10) (asked 3 1000000), Refused 10) ∷
-    -- 7 before 10, 10 before 6, 6 before 11
-    (verdictAnswer (emptyRecord 11) (asked 3 1000000), Refused 7) ∷
-    (verdictAnswer (emptyRecord 10) (asked 41 1000000), Refused 10) ∷
-    (verdictAnswer (oneWindow 3 0) (asked 1 0), Refused 6) ∷
+    (verdictAnswer (emptyRecord 10) (asked 3 65 1000000), Refused 10) ∷
+    -- 7 before 10, 10 before 6, 6 before 15, 15 before 11; and 6 before 11
+    (verdictAnswer (emptyRecord 11) (asked 3 65 1000000), Refused 7) ∷
+    (verdictAnswer (emptyRecord 10) (asked 41 65 1000000), Refused 10) ∷
+    (verdictAnswer (oneWindow 3 0) (asked 1 67 1000000), Refused 6) ∷
+    (verdictAnswer (oneWindow 3 0) (asked 3 67 0), Refused 15) ∷
+    (verdictAnswer (oneWindow 3 0) (asked 1 65 0), Refused 6) ∷
     []
 
 verdicts-worked : map (λ row. row .0) verdictCases ≡ map (λ row. row .1) verdictCases
-unfolding verdictCases only observed oneWindow emptyRecord isSystem anyOf noneAbove allZero isSound whole times divide limitOf figureIn ownFigures overOrder limitInUnits peakLimitInUnits raised atMost isWithin isOver averageOf peakOf combined verdictOf verdictRefusal verdictAnswer
+unfolding verdictCases only observed oneWindow emptyRecord isSystem anyOf noneAbove allZero isSound whole times divide limitOf classALimit figureIn ownFigures overOrder limitInUnits peakLimitInUnits raised atMost isWithin isOver averageOf peakOf combined verdictIn verdictRefusal verdictAnswer isClass classWith letterOf
 verdicts-worked = refl
 
 -- ---- the numbers of the cases
@@ -89,6 +127,7 @@ numbers =
     (Refused 7, 7) ∷
     (Refused 10, 10) ∷
     (Refused 11, 11) ∷
+    (Refused 15, 15) ∷
     []
 
 numbers-worked : map (λ c. refusalNumber (c .0)) numbers ≡ map (λ c. c .1) numbers

@@ -1,4 +1,4 @@
--- What the call `order_verdict` answers (document 01, "Class A verdicts" and the refusal table's row "verdict").
+-- What the call `order_verdict` answers (document 01, "Class A verdicts" and the refusal table's row "verdict"; document 02, card 1).
 use mathlib.Core.Bool.{Bool, cond, not, _&&_, _||_}
 use mathlib.Core.List.{List, [], _∷_}
 use Prim.Native.Nat.{ℕ}
@@ -10,7 +10,9 @@ use Rattle.observation.specs.Soundness.{isSound}
 use Rattle.observation.specs.Average.{averageOf, peakOf}
 use Rattle.fractions.specs.declared.Fraction.{Fraction as Held}
 use Rattle.fractions.specs.Parts.{parts}
-use Rattle.limits.specs.Call.{limitedOrderCheck}
+use Rattle.limits.specs.declared.Class.{Class}
+use Rattle.limits.specs.Letters.{classWith}
+use Rattle.limits.specs.Call.{limitedOrderCheck, classCheck}
 use Rattle.verdict.specs.declared.Question.{Question}
 use Rattle.verdict.specs.declared.Verdict.{Verdict}
 use Rattle.verdict.specs.declared.Verdict.the-variants.{Within, Close, Over}
@@ -26,22 +28,27 @@ combined average limit peak peakLimit order =
     cond (isOver average limit || isOver peak peakLimit) (Over order)
     (cond (isWithin average limit && isWithin peak peakLimit) (Within order) (Close order))
 
--- "the average (sum/n) against the limit, the peak against 150 % of it"
-unfoldable pub verdictOf : Observation → Question → Verdict
-verdictOf o q =
+-- "the average (sum/n) against the limit, the peak against 150 % of it", in a class
+unfoldable pub verdictIn : Class → Observation → ℕ → ℕ → Verdict
+verdictIn class o order scale =
     combined
-    (parts (averageOf o (q .order)))
-    (parts (limitInUnits q))
-    (parts (peakOf o (q .order)))
-    (parts (peakLimitInUnits q))
-    (q .order)
+    (parts (averageOf o order))
+    (parts (limitInUnits class order scale))
+    (parts (peakOf o order))
+    (parts (peakLimitInUnits class order scale))
+    order
 
--- 7 record not sound; 10 no window yet; 6 order outside 2..40; 11 K outside 1..2^28
+-- the verdict of what is asked, in the class that the letter names
+abbrev pub verdictOf : Observation → Question → Verdict
+verdictOf o q = verdictIn (classWith (q .letter)) o (q .order) (q .scale)
+
+-- 7 record not sound; 10 no window yet; 6 order outside 2..40; 15 class letter other than A or B, "tested after the order and before K"; 11 K outside 1..2^28
 abbrev pub verdictChecks : Observation → Question → List (Bool × ℕ)
 verdictChecks o q =
     (not (isSound o), unsoundRecord) ∷
     (eqb (o .windows) 0, noWindow) ∷
     limitedOrderCheck (q .order) ∷
+    classCheck (q .letter) ∷
     (not (isScale (q .scale)), scaleOutOfRange) ∷
     []
 

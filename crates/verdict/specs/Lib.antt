@@ -1,5 +1,6 @@
--- Class A verdicts of document 01: what is asked, the limits, the two tests, and what the call answers.
+-- Verdicts of a class: what is asked, the limits, the two tests, what the call answers, and what document 01 has it answer in class A.
 pub mod Question
 pub mod Tests
 pub mod Limit
 pub mod Call
+pub mod ClassA

@@ -1,9 +1,9 @@
--- The limits in units of what is asked (document 01, "Class A verdicts").
+-- The limits of an order in units (document 01, "Class A verdicts"; document 02, card 1).
 use Prim.Native.Nat.{ℕ}
 use native.Mathlib.Omega.{arith}
 use Rattle.algebra.specs.Fraction.{Fraction, times, divide}
-use Rattle.limits.specs.Limit.{limitOf}
-use Rattle.verdict.specs.declared.Question.{Question}
+use Rattle.limits.specs.declared.Class.{Class}
+use Rattle.limits.specs.Limit.{threeHalves, limitOf}
 
 -- milliamperes in an ampere
 abbrev pub milliamperes : ℕ
@@ -13,12 +13,10 @@ milliamperes = 1000
 abbrev pub inUnits : ℕ → Fraction → Fraction
 inUnits scale figure = divide (times scale figure) milliamperes (omega arith)
 
-unfoldable pub limitInUnits : Question → Fraction
-limitInUnits q = inUnits (q .scale) (limitOf (q .order))
+module _ (class : Class) (order scale : ℕ) where
+  unfoldable pub limitInUnits : Fraction
+  limitInUnits = inUnits scale (limitOf class order)
 
--- 150 %, as three halves
-abbrev pub threeHalves : Fraction → Fraction
-threeHalves limit = divide (times 3 limit) 2 (omega arith)
-
-unfoldable pub peakLimitInUnits : Question → Fraction
-peakLimitInUnits q = threeHalves (limitInUnits q)
+  -- 150 % of the class's own limit, for the peak
+  unfoldable pub peakLimitInUnits : Fraction
+  peakLimitInUnits = threeHalves limitInUnits

@@ -1,12 +1,12 @@
--- What is asked of a verdict: an order and K, the units per ampere (document 01, "Class A verdicts").
+-- What is asked of a verdict: an order, the letter of a class, and K, the units per ampere (document 01, "Class A verdicts"; document 02, card 1).
 use mathlib.Core.Bool.{Bool, _&&_}
 use Prim.Native.Nat.{ℕ, _^_}
 use lib.Dec.{leb}
 use Rattle.verdict.specs.declared.Question.{Question}
 
 -- a question by its parts
-abbrev pub asked : ℕ → ℕ → Question
-asked order scale = record { order = order; scale = scale }
+abbrev pub asked : ℕ → ℕ → ℕ → Question
+asked order letter scale = record { order = order; letter = letter; scale = scale }
 
 -- K is 1..2^28
 abbrev pub largestScale : ℕ

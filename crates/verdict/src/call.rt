@@ -7,18 +7,24 @@ use crate::limit::three_halves;
 use crate::tests::is_over;
 use crate::tests::is_within;
 use fractions::Fraction;
+use limits::Class;
+use limits::class_with;
 use limits::has_limit;
+use limits::is_class;
 use observation::Observation;
 use observation::is_sound;
 use refusals::NO_REFUSAL;
 use refusals::NO_WINDOW;
 use refusals::ORDER_OUT_OF_RANGE;
 use refusals::SCALE_OUT_OF_RANGE;
+use refusals::UNKNOWN_CLASS;
 use refusals::UNSOUND_RECORD;
 use refusals::fault_or;
+ghost use mathlib.Core.Bool.{true};
 ghost use mathlib.Core.Path.{_≡_};
-ghost use Rattle.refusals.specs.Numbers.{noRefusal};
-ghost use Rattle.verdict.specs.Call.{combined, verdictOf, verdictRefusal, verdictAnswer, refusalNumber};
+ghost use Prim.Native.Nat.{_<_};
+ghost use Rattle.limits.specs.Limit.{hasLimit};
+ghost use Rattle.verdict.specs.Call.{combined, verdictIn, verdictRefusal, verdictAnswer, refusalNumber};
 
 // The largest number of units per ampere.
 const LARGEST_SCALE: u32 = 1 << 28;
@@ -37,9 +43,13 @@ fn verdict_refusal(observation: Observation, question: Question) -> u32
                 !has_limit(question.order),
                 ORDER_OUT_OF_RANGE,
                 fault_or(
-                    !((1 <= question.scale) & (question.scale <= LARGEST_SCALE)),
-                    SCALE_OUT_OF_RANGE,
-                    NO_REFUSAL,
+                    !is_class(question.letter),
+                    UNKNOWN_CLASS,
+                    fault_or(
+                        !((1 <= question.scale) & (question.scale <= LARGEST_SCALE)),
+                        SCALE_OUT_OF_RANGE,
+                        NO_REFUSAL,
+                    ),
                 ),
             ),
         ),
@@ -65,12 +75,12 @@ fn combined(
     Verdict::Close(order)
 }
 
-// The average against the limit and the peak against 150 % of it.
-fn verdict_of(observation: Observation, question: Question) -> Verdict
-    requires { ⌜ verdictRefusal observation question ≡ noRefusal ⌝ }
-    ensures { λ r. ⌜ r ≡ verdictOf observation question ⌝ }
+// The average against the limit of the class, and the peak against 150 % of that.
+fn verdict_in(class: Class, observation: Observation, order: u32, scale: u32) -> Verdict
+    requires { ⌜ hasLimit order ≡ true ⌝ }
+    requires { ⌜ 0 < observation .windows ⌝ }
+    ensures { λ r. ⌜ r ≡ verdictIn class observation order scale ⌝ }
 {
-    let order = question.order;
     let place = (order - 1) as usize;
     let average = Fraction {
         numerator: observation.sum[place],
@@ -80,13 +90,13 @@ fn verdict_of(observation: Observation, question: Question) -> Verdict
         numerator: observation.peak[place],
         denominator: 1,
     };
-    let limit = listed_in_units(question);
+    let limit = listed_in_units(class, order, scale);
     let peak_limit = three_halves(limit);
     combined(average, limit, peak, peak_limit, order)
 }
 
 // The verdict of what is asked, or the refusal. Refused: 7 record not sound, 10 no window yet, 6 order
-// outside 2..40, 11 units per ampere outside 1..2^28.
+// outside 2..40, 15 class letter not A or B, 11 units per ampere outside 1..2^28.
 pub fn order_verdict(observation: Observation, question: Question) -> VerdictAnswer
     ensures { λ r. ⌜ r ≡ verdictAnswer observation question ⌝ }
     ensures { λ r. ⌜ refusalNumber r ≡ verdictRefusal observation question ⌝ }
@@ -95,5 +105,6 @@ pub fn order_verdict(observation: Observation, question: Question) -> VerdictAns
     if refusal != NO_REFUSAL {
         return VerdictAnswer::Refused(refusal);
     }
-    VerdictAnswer::Given(verdict_of(observation, question))
+    let class = class_with(question.letter);
+    VerdictAnswer::Given(verdict_in(class, observation, question.order, question.scale))
 }

@@ -1,13 +1,15 @@
-// The verdict of an order against the limits of IEC 61000-3-2, class A.
+// The verdict of an order against the limits of IEC 61000-3-2, in class A or B.
 mod call;
 mod limit;
 mod tests;
 
 pub use call::order_verdict;
 
-// What is asked: a harmonic order, and the units per ampere, K, in which the record counts.
+// What is asked: a harmonic order, the letter of a class, and the units per ampere, K, in which the record
+// counts.
 pub struct Question {
     pub order: u32,
+    pub letter: u8,
     pub scale: u32,
 }
 

@@ -1,7 +1,7 @@
-// The limits in units of what is asked.
-use crate::Question;
+// The limits of an order in units.
 use fractions::Fraction;
-use limits::order_limit;
+use limits::Class;
+use limits::class_limit;
 ghost use mathlib.Core.Bool.{true};
 ghost use mathlib.Core.Path.{_≡_};
 ghost use Prim.Native.Nat.{_*_, _^_, _<_};
@@ -12,14 +12,14 @@ ghost use Rattle.verdict.specs.Limit.{inUnits};
 // Milliamperes in an ampere.
 const MILLIAMPERES: u64 = 1000;
 
-// The limit of the order that is asked for, as the table lists it, in units.
-pub(crate) fn listed_in_units(question: Question) -> Fraction
-    requires { ⌜ hasLimit (question .order) ≡ true ⌝ }
-    ensures { λ r. ⌜ r ≡ parts (inUnits (question .scale) (listedLimit (question .order))) ⌝ }
+// The limit of an order in a class, as it is listed, in units.
+pub(crate) fn listed_in_units(class: Class, order: u32, scale: u32) -> Fraction
+    requires { ⌜ hasLimit order ≡ true ⌝ }
+    ensures { λ r. ⌜ r ≡ parts (inUnits scale (listedLimit class order)) ⌝ }
 {
-    let limit = order_limit(question.order).limit;
+    let limit = class_limit(class, order);
     Fraction {
-        numerator: question.scale as u64 * limit.numerator,
+        numerator: scale as u64 * limit.numerator,
         denominator: MILLIAMPERES * limit.denominator,
     }
 }

@@ -28,12 +28,13 @@ use Rattle.spectrum.specs.Line.{windowAt}
 use Rattle.spectrum.specs.Spectrum.{outOfRange}
 use Rattle.observe.specs.Observe.{windowRows, observeChecks, observeRefusal}
 use Rattle.fractions.specs.Parts.{raised, atMost}
-use Rattle.limits.specs.Limit.{ownFigures, figureIn, limitOf, overOrder}
+use Rattle.limits.specs.Letters.{letterOf, isClass, classWith}
+use Rattle.limits.specs.Limit.{ownFigures, figureIn, classALimit, limitOf, overOrder}
 use Rattle.limits.specs.Call.{limitRefusal}
 use Rattle.verdict.specs.Question.{asked}
 use Rattle.verdict.specs.Limit.{limitInUnits, peakLimitInUnits}
 use Rattle.verdict.specs.Tests.{isWithin, isOver}
-use Rattle.verdict.specs.Call.{combined, verdictOf, verdictRefusal}
+use Rattle.verdict.specs.Call.{combined, verdictIn, verdictRefusal}
 use Rattle.observation.specs.Average.{averageOf, peakOf}
 use Rattle.columns.specs.Text.{bytesOf, rightJustified}
 use Rattle.columns.specs.Column.{areDigits, isWhole, placeValue, wholeNumber, negativeNumber, signedNumber, afterBlanks, columnNumber, decimalWithin, decimalText, numberText, columnText}
@@ -103,19 +104,28 @@ distortions-worked = refl
 -- ---- kifsang_limit
 
 -- the refusal, and what stands in the two lent numbers, 77 and 78 before the call
-limitFor : ℕ → ℕ × (ℕ × ℕ)
-limitFor order = (limitRefusal order, (limitNumeratorExit order 77, limitDenominatorExit order 78))
+limitFor : ℕ → ℕ → ℕ × (ℕ × ℕ)
+limitFor order letter = (limitRefusal order letter, (limitNumeratorExit order letter 77, limitDenominatorExit order letter 78))
 
 limits-worked :
     Alike
-    ((limitFor 2, (0, (1080, 1))) ∷
-    (limitFor 12, (0, (460, 3))) ∷
-    (limitFor 39, (0, (750, 13))) ∷
-    (limitFor 40, (0, (46, 1))) ∷
-    (limitFor 1, (6, (77, 78))) ∷
-    (limitFor 41, (6, (77, 78))) ∷
+    ((limitFor 2 65, (0, (1080, 1))) ∷
+    (limitFor 12 65, (0, (460, 3))) ∷
+    (limitFor 39 65, (0, (750, 13))) ∷
+    (limitFor 40 65, (0, (46, 1))) ∷
+    (limitFor 2 66, (0, (1620, 1))) ∷
+    (limitFor 12 66, (0, (230, 1))) ∷
+    (limitFor 39 66, (0, (1125, 13))) ∷
+    (limitFor 40 66, (0, (69, 1))) ∷
+    -- 6 before 15
+    (limitFor 1 65, (6, (77, 78))) ∷
+    (limitFor 41 67, (6, (77, 78))) ∷
+    (limitFor 40 64, (15, (77, 78))) ∷
+    (limitFor 40 67, (15, (77, 78))) ∷
+    (limitFor 40 97, (15, (77, 78))) ∷
+    (limitFor 40 98, (15, (77, 78))) ∷
     [])
-unfolding Alike limitFor limitRefusal limitNumeratorExit limitDenominatorExit lowestTerms leastDenominator least limitOf figureIn ownFigures overOrder whole
+unfolding Alike limitFor limitRefusal limitNumeratorExit limitDenominatorExit lowestTerms leastDenominator least isClass classWith letterOf limitOf classALimit figureIn ownFigures overOrder whole times divide
 limits-worked = refl
 
 -- ---- kifsang_verdict
@@ -124,29 +134,39 @@ limits-worked = refl
 recordWith : ℕ → ℕ → List ℕ
 recordWith windows value = 10 ∷ windows ∷ replicate 120 value
 
-verdictFor : List ℕ → ℕ → ℕ → ℕ × ℕ
-verdictFor words order scale =
-    (verdictCallRefusal words (asked order scale), verdictCallExit words (asked order scale) 77)
+verdictFor : List ℕ → ℕ → ℕ → ℕ → ℕ × ℕ
+verdictFor words order letter scale =
+    let q = asked order letter scale in
+    (verdictCallRefusal words q, verdictCallExit words q 77)
 
 verdicts-worked :
     Alike
-    ((verdictFor (recordWith 1 2299988) 3 1000000, (0, 1)) ∷
-    (verdictFor (recordWith 1 2299989) 3 1000000, (0, 2)) ∷
-    (verdictFor (recordWith 1 2300012) 3 1000000, (0, 2)) ∷
-    (verdictFor (recordWith 1 2300013) 3 1000000, (0, 3)) ∷
-    -- 102 before 7 before 10 before 6 before 11
-    (verdictFor (replicate 121 7) 1 0, (102, 77)) ∷
-    (verdictFor (replicate 123 7) 1 0, (102, 77)) ∷
-    (verdictFor (replicate 122 7) 1 0, (7, 77)) ∷
-    (verdictFor ((2 ^ 32 + 10) ∷ 1 ∷ replicate 120 0) 1 0, (7, 77)) ∷
-    (verdictFor (recordWith 0 0) 1 0, (10, 77)) ∷
-    (verdictFor (recordWith 1 0) 1 0, (6, 77)) ∷
-    (verdictFor (recordWith 1 0) 41 0, (6, 77)) ∷
-    (verdictFor (recordWith 1 0) 40 0, (11, 77)) ∷
-    (verdictFor (recordWith 1 0) 40 (2 ^ 28 + 1), (11, 77)) ∷
-    (verdictFor (recordWith 1 0) 40 (2 ^ 28), (0, 1)) ∷
+    ((verdictFor (recordWith 1 2299988) 3 65 1000000, (0, 1)) ∷
+    (verdictFor (recordWith 1 2299989) 3 65 1000000, (0, 2)) ∷
+    (verdictFor (recordWith 1 2300012) 3 65 1000000, (0, 2)) ∷
+    (verdictFor (recordWith 1 2300013) 3 65 1000000, (0, 3)) ∷
+    (verdictFor (recordWith 1 3449988) 3 66 1000000, (0, 1)) ∷
+    (verdictFor (recordWith 1 3449989) 3 66 1000000, (0, 2)) ∷
+    (verdictFor (recordWith 1 3450012) 3 66 1000000, (0, 2)) ∷
+    (verdictFor (recordWith 1 3450013) 3 66 1000000, (0, 3)) ∷
+    -- 102 before 7 before 10 before 6 before 15 before 11
+    (verdictFor (replicate 121 7) 1 0 0, (102, 77)) ∷
+    (verdictFor (replicate 123 7) 1 0 0, (102, 77)) ∷
+    (verdictFor (replicate 122 7) 1 0 0, (7, 77)) ∷
+    (verdictFor ((2 ^ 32 + 10) ∷ 1 ∷ replicate 120 0) 1 0 0, (7, 77)) ∷
+    (verdictFor (recordWith 0 0) 1 0 0, (10, 77)) ∷
+    (verdictFor (recordWith 1 0) 1 0 0, (6, 77)) ∷
+    (verdictFor (recordWith 1 0) 41 0 0, (6, 77)) ∷
+    (verdictFor (recordWith 1 0) 40 64 0, (15, 77)) ∷
+    (verdictFor (recordWith 1 0) 40 67 0, (15, 77)) ∷
+    (verdictFor (recordWith 1 0) 40 97 0, (15, 77)) ∷
+    (verdictFor (recordWith 1 0) 40 98 0, (15, 77)) ∷
+    (verdictFor (recordWith 1 0) 40 65 0, (11, 77)) ∷
+    (verdictFor (recordWith 1 0) 40 66 (2 ^ 28 + 1), (11, 77)) ∷
+    (verdictFor (recordWith 1 0) 40 65 (2 ^ 28), (0, 1)) ∷
+    (verdictFor (recordWith 1 0) 40 66 (2 ^ 28), (0, 1)) ∷
     [])
-unfolding Alike verdictFor recordWith verdictCallRefusal verdictCallExit verdictNumber recordOf ofParts partsFrom wordsFrom tabulate verdictRefusal verdictOf averageOf peakOf combined raised atMost isOver isWithin limitInUnits peakLimitInUnits limitOf figureIn ownFigures overOrder whole times divide isSound isSystem noneAbove allZero anyOf
+unfolding Alike verdictFor recordWith verdictCallRefusal verdictCallExit verdictNumber recordOf ofParts partsFrom wordsFrom tabulate verdictRefusal verdictIn averageOf peakOf combined raised atMost isOver isWithin limitInUnits peakLimitInUnits isClass classWith letterOf limitOf classALimit figureIn ownFigures overOrder whole times divide isSound isSystem noneAbove allZero anyOf
 verdicts-worked = refl
 
 -- ---- kifsang_row

@@ -29,10 +29,11 @@ use Rattle.observation.specs.Soundness.{noneAbove, allZero, isSound}
 use Rattle.observation.specs.Calls.{emptyRecord, freshRefusal, freshAnswer, bookAt, nextBook, withRow, rowChecks, addRowRefusal, addRowAnswer}
 use Rattle.observation.specs.RecordAfter.{recordAfter}
 use Rattle.fractions.specs.Parts.{raised, atMost}
-use Rattle.limits.specs.Limit.{ownFigures, figureIn, limitOf, overOrder}
+use Rattle.limits.specs.Letters.{letterOf, isClass, classWith}
+use Rattle.limits.specs.Limit.{ownFigures, figureIn, classALimit, limitOf, overOrder}
 use Rattle.verdict.specs.Limit.{limitInUnits, peakLimitInUnits}
 use Rattle.verdict.specs.Tests.{isWithin, isOver}
-use Rattle.verdict.specs.Call.{combined, verdictOf, verdictRefusal, verdictAnswer}
+use Rattle.verdict.specs.Call.{combined, verdictIn, verdictRefusal, verdictAnswer}
 use Rattle.observation.specs.Average.{averageOf, peakOf}
 use Rattle.columns.specs.Text.{bytesOf}
 use Rattle.columns.specs.Column.{areDigits, isWhole, placeValue, wholeNumber, negativeNumber, signedNumber, afterBlanks, columnNumber}
@@ -68,7 +69,7 @@ pulse-group kind system value known alike order known-order =
     )
 
 pub worked-numbers : Everywhere Holds cases
-unfolding cases Holds tableEntry nearest quarterSine denominator added takenAway term factorial isSystem rootOf largest spanOf weightsIn weightedSum sumOver tabulate anyOf rowOf afterRows recordAfter emptyRecord freshRefusal freshAnswer bookAt nextBook withRow rowChecks addRowRefusal addRowAnswer noneAbove allZero isSound smoothedNext bookStep smoothedValue ownFigures figureIn limitOf overOrder limitInUnits peakLimitInUnits raised atMost isWithin isOver averageOf peakOf combined verdictOf verdictRefusal verdictAnswer whole times divide bytesOf areDigits isWhole placeValue wholeNumber negativeNumber signedNumber afterBlanks columnNumber columnReadAnswer
+unfolding cases Holds tableEntry nearest quarterSine denominator added takenAway term factorial isSystem rootOf largest spanOf weightsIn weightedSum sumOver tabulate anyOf rowOf afterRows recordAfter emptyRecord freshRefusal freshAnswer bookAt nextBook withRow rowChecks addRowRefusal addRowAnswer noneAbove allZero isSound smoothedNext bookStep smoothedValue ownFigures figureIn limitOf classALimit isClass classWith letterOf overOrder limitInUnits peakLimitInUnits raised atMost isWithin isOver averageOf peakOf combined verdictIn verdictRefusal verdictAnswer whole times divide bytesOf areDigits isWhole placeValue wholeNumber negativeNumber signedNumber afterBlanks columnNumber columnReadAnswer
 worked-numbers = (
   refl,
   (

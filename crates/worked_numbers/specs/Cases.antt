@@ -48,7 +48,7 @@ pub data Case : Type 0 where
   group : Kind → ℕ → ℕ → Case
   -- two rows, and the smoothed value after them
   smoothed : ℕ → ℕ → ℕ → Case
-  -- the value of one window at order 3, and the verdict at K = 1000000
+  -- the value of one window at order 3, and the verdict at K = 1000000 in class A
   verdict : ℕ → Verdict → Case
   -- a text, and the number that it is read as
   column : String → ℤ → Case
@@ -62,7 +62,7 @@ Holds (group kind system value) =
     (order : ℕ) → isOrder order ≡ true → groupAnswer kind system order (linesOf pulse) ≡ answer noRefusal value
 Holds (smoothed first second value) =
     afterRows (rowOf first ∷ rowOf second ∷ []) .smoothed ≡ replicate orderCount value
-Holds (verdict value given) = verdictAnswer (afterRows (rowOf value ∷ [])) (asked 3 1000000) ≡ Given given
+Holds (verdict value given) = verdictAnswer (afterRows (rowOf value ∷ [])) (asked 3 65 1000000) ≡ Given given
 Holds (column text number) = columnReadAnswer (bytesOf text) ≡ record { refusal = noRefusal; value = number }
 Holds (noColumn text) = columnReadAnswer (bytesOf text) ≡ record { refusal = notAColumn; value = pos 0 }
 

@@ -5,12 +5,12 @@ use borrow.Author.Tests.{ne-eqb}
 use Rattle.refusals.specs.Numbers.{noRefusal}
 use Rattle.limits.specs.declared.LimitAnswer.{LimitAnswer}
 use Rattle.limits.specs.Call.{limitRefusal, limitAnswer}
-use Rattle.limits.proofs.Limits.{accepted-has-limit, limitAnswer-limit}
+use Rattle.limits.proofs.Limits.{limitAnswer-limit}
 use Rattle.exported_limits.specs.LimitCall.{limitNumeratorExit, limitDenominatorExit}
 use Rattle.exported_limits.proofs.kifsang_limit.Statement.{statement}
 use Rattle.exported_limits.proofs.kifsang_limit.Tie as tie
 
-refusal-is : (c : tie.After-order-limit) → c .order-limit .result .refusal ≡ limitRefusal (c .before .args .order)
+refusal-is : (c : tie.After-order-limit) → c .order-limit .result .refusal ≡ limitRefusal (c .before .args .order) (c .before .args .letter)
 unfolding limitAnswer
 refusal-is c = ap (λ (a : LimitAnswer). a .refusal) (c .order-limit .ensures)
 
@@ -18,10 +18,10 @@ returns : tie.Need-returns
 unfolding limitNumeratorExit limitDenominatorExit
 returns c =
     let at = c .before .before .before in
-    let order = at .before .args .order in
+    let args = at .before .args in
     let refusal = refusal-is at in
-    let passed : limitRefusal order ≡ noRefusal = sym refusal ∙ c .before .if1 .taken in
-    let limit = ap (λ (a : LimitAnswer). a .limit) (at .order-limit .ensures) ∙ limitAnswer-limit order (accepted-has-limit order passed) in
+    let passed : limitRefusal (args .order) (args .letter) ≡ noRefusal = sym refusal ∙ c .before .if1 .taken in
+    let limit = ap (λ (a : LimitAnswer). a .limit) (at .order-limit .ensures) ∙ limitAnswer-limit (args .order) (args .letter) passed in
     (refusal, (rw (passed, limit), rw (passed, limit)))
 
 returns-2 : tie.Need-returns-2

@@ -25,22 +25,23 @@ returns-2 c =
     let at-own = at-read .before in
     let a = at-own .before .before .before .args in
     let words = a .words .now in
+    let q = asked (a .order) (a .letter) (a .scale) in
     let passed = sym (at-own .before .fault-or .ensures) ∙ at-own .if1 .left in
-    let answered : at-call .order-verdict .result ≡ verdictAnswer (recordRead words) (asked (a .order) (a .scale)) =
+    let answered : at-call .order-verdict .result ≡ verdictAnswer (recordRead words) q =
     rw (← at-read .read-record .ensures) (at-call .order-verdict .ensures .0) in
     let handed = rw answered at (c .hand-over-verdict .ensures) in
-    let received = verdict-received (recordRead words) (asked (a .order) (a .scale)) (a .verdict .now) in
+    let received = verdict-received (recordRead words) q (a .verdict .now) in
     rw passed (
       handed .0 ∙
           (received .0 ∙
-          recordRead-same (λ o. verdictRefusal o (asked (a .order) (a .scale))) unsoundRecord (λ o unsound. rw unsound) words),
+          recordRead-same (λ o. verdictRefusal o q) unsoundRecord (λ o unsound. rw unsound) words),
       handed .1 ∙
           (received .1 ∙
           recordRead-same
           (λ o.
           unlessRefused
-          (verdictRefusal o (asked (a .order) (a .scale)))
-          (verdictNumber (verdictOf o (asked (a .order) (a .scale))))
+          (verdictRefusal o q)
+          (verdictNumber (verdictOf o q))
           (a .verdict .now))
           (a .verdict .now)
           (λ o unsound. rw unsound)

@@ -6,30 +6,31 @@ use mir.Syntax.{w32}
 use mir.Val.{Fits}
 use Rattle.algebra.specs.Fraction.{times, divide}
 use Rattle.fractions.specs.Parts.{parts}
-use Rattle.limits.specs.declared.LimitAnswer.{LimitAnswer}
 use Rattle.limits.specs.Limit.{listedLimit}
-use Rattle.limits.proofs.Limits.{limitAnswer-limit}
-use Rattle.verdict.proofs.Limits.{listedInUnits-num-le, listedInUnits-den-le}
+use Rattle.limits.proofs.Limits.{limitOrZero-limited}
+use Rattle.verdict.proofs.Limits.{listedInUnits-le}
 use Rattle.verdict.proofs.limit.listed_in_units.Statement.{statement}
 use Rattle.verdict.proofs.limit.listed_in_units.Tie as tie
 
 -- the limit that is read
-limit-is : (c : tie.After-order-limit) → c .order-limit .result .limit ≡ parts (listedLimit (c .before .args .question .order))
-limit-is c = ap (λ (a : LimitAnswer). a .limit) (c .order-limit .ensures) ∙ limitAnswer-limit _ (c .before .pre)
-
-mul-t5 : tie.Need-mul-t5
-unfolding times divide
-mul-t5 c =
-    let at = c .before .before .before in
-    let q = at .before .args .question in
-    let fits : Fits w32 (q .scale) = search needs in
-    rw (limit-is at) (omega (arith, listedInUnits-num-le q (at .before .pre) fits))
+limit-is : (c : tie.After-class-limit) → c .class-limit .result ≡ parts (listedLimit (c .before .args .class) (c .before .args .order))
+limit-is c = c .class-limit .ensures ∙ ap parts (limitOrZero-limited _ (c .before .pre) _)
 
 mul-t6 : tie.Need-mul-t6
 unfolding times divide
 mul-t6 c =
-    let at = c .before .before .before .before in
-    rw (limit-is at) (omega (arith, listedInUnits-den-le (at .before .args .question) (at .before .pre)))
+    let at = c .before in
+    let args = at .before .args in
+    let fits : Fits w32 (args .scale) = search needs in
+    rw (limit-is at) (omega (arith, listedInUnits-le (args .class) (args .order) (args .scale) (at .before .pre) fits .0))
+
+mul-t7 : tie.Need-mul-t7
+unfolding times divide
+mul-t7 c =
+    let at = c .before .before in
+    let args = at .before .args in
+    let fits : Fits w32 (args .scale) = search needs in
+    rw (limit-is at) (omega (arith, listedInUnits-le (args .class) (args .order) (args .scale) (at .before .pre) fits .1))
 
 pub listed-in-units-spec : {M : Type 1} → statement M
 unfolding times divide
@@ -37,7 +38,6 @@ listed-in-units-spec =
     tie.close
     (tie.spec
     (λ c κs. search needs)
-    (λ c. search needs)
-    mul-t5
     mul-t6
-    (λ c. rw (limit-is (c .before .before .before .before))))
+    mul-t7
+    (λ c. rw (limit-is (c .before .before))))
