@@ -1,7 +1,8 @@
 //! The refusals and their numbers (document 01, "Where each refusal is
-//! checked"). The order of the checks stands in the functions that make them.
+//! checked", and the cards of document 02). The order of the checks stands in the
+//! functions that make them.
 
-/// Why a call was turned away. The discriminant is document 01's number.
+/// Why a call was turned away. The discriminant is the documents' number.
 #[derive(Clone, Copy, Debug, PartialEq, Eq)]
 pub enum Refusal {
     /// The system is neither 10 nor 12.
@@ -32,10 +33,12 @@ pub enum Refusal {
     NotAColumn = 13,
     /// The buffer has the wrong length.
     WrongBufferLength = 14,
+    /// The class letter is neither A nor B (document 02, card 1).
+    UnknownClass = 15,
 }
 
 impl Refusal {
-    /// Document 01's number of this refusal.
+    /// The documents' number of this refusal.
     pub fn number(self) -> u8 {
         self as u8
     }

@@ -18,11 +18,15 @@ use crate::signals::{Signal, appliances, halfway_window, noise, noise_of_ends};
 use crate::signals::{plain_windows, seeded_windows, square_wave, tone};
 use crate::spectrum::{LARGEST_LINE, LARGEST_SAMPLE, LINE_COUNT, LINE_LIMIT, WINDOW_LENGTH};
 use crate::spectrum::{lines_from, spectrum};
-use crate::verdict::{Question, Verdict, order_verdict};
+use crate::verdict::{LARGEST_SCALE, Question, Verdict, order_verdict};
 use std::fmt::Display;
 use std::io::{Result, Write};
 
 const SYSTEMS: [u64; 2] = [10, 12];
+/// The scales at both edges, and those beside them.
+const EDGE_SCALES: [u64; 4] = [0, 1, LARGEST_SCALE, LARGEST_SCALE + 1];
+/// The orders that have a limit at both edges, those beside them, and 0.
+const EDGE_ORDERS: [u64; 5] = [0, 1, 2, 40, 41];
 /// What a buffer holds before a call, so that bytes that stay can be seen.
 const UNTOUCHED: u8 = b'#';
 
@@ -148,16 +152,18 @@ impl<W: Write> Printer<W> {
         Ok(next)
     }
 
-    fn limit_case(&mut self, order: u64) -> Result<()> {
-        let result = order_limit(order);
+    fn limit_case(&mut self, order: u64, class_letter: u8) -> Result<()> {
+        let result = order_limit(order, class_letter);
         let (numerator, denominator) =
             result.map_or((0, 0), |limit| (limit.numerator, limit.denominator));
         let refusal = number_or_zero(&result).into();
-        self.numbers("limit", &[order, refusal, numerator, denominator])
+        self.numbers("limit", &[order, class_letter.into(), refusal, numerator, denominator])
     }
 
-    fn verdict_case(&mut self, record: &Observation, order: u64, scale: u64) -> Result<()> {
-        let result = order_verdict(record, Question { order, scale });
+    /// The verdict on the last record.
+    fn verdict_case(&mut self, record: &Observation, question: Question) -> Result<()> {
+        let Question { order, class_letter, scale } = question;
+        let result = order_verdict(record, question);
         let (outcome, carried) = match result {
             Err(_) => (0, 0),
             Ok(Verdict::Within(carried)) => (1, carried),
@@ -165,7 +171,8 @@ impl<W: Write> Printer<W> {
             Ok(Verdict::Over(carried)) => (3, carried),
         };
         let refusal = number_or_zero(&result).into();
-        self.numbers("verdict", &[order, scale, refusal, outcome, carried])
+        let numbers = [order, class_letter.into(), scale, refusal, outcome, carried];
+        self.numbers("verdict", &numbers)
     }
 
     fn read_column_case(&mut self, text: &[u8]) -> Result<()> {
@@ -368,18 +375,23 @@ fn print_distortions<W: Write>(printer: &mut Printer<W>, random: &mut Random) ->
     Ok(())
 }
 
-/// Runs of rows into one record, with verdicts on the way.
-fn print_records<W: Write>(printer: &mut Printer<W>, random: &mut Random) -> Result<()> {
+/// Runs of rows into one record, with verdicts in a class on the way.
+fn print_records<W: Write>(
+    printer: &mut Printer<W>,
+    random: &mut Random,
+    class_letter: u8,
+) -> Result<()> {
     for system in [0, 11, 13, 10, 12] {
         let mut record = printer.fresh_case(system)?;
-        printer.verdict_case(&record, 3, 1_000_000)?;
+        printer.verdict_case(&record, Question { order: 3, class_letter, scale: 1_000_000 })?;
         for _ in 0..12 {
             let row_system = [record.system, record.system, 10, 12, 11][random.below(5) as usize];
             let values = random_values(random);
             record = printer.row_case(record, &Row { system: row_system, values })?;
             for _ in 0..4 {
                 let scale = 1 + (random.bits() >> (36 + random.below(28)));
-                printer.verdict_case(&record, random.below(43), scale)?;
+                let order = random.below(43);
+                printer.verdict_case(&record, Question { order, class_letter, scale })?;
             }
         }
     }
@@ -387,7 +399,7 @@ fn print_records<W: Write>(printer: &mut Printer<W>, random: &mut Random) -> Res
 }
 
 /// Records at the edges of soundness and of the count of windows.
-fn print_record_edges<W: Write>(printer: &mut Printer<W>) -> Result<()> {
+fn edge_records() -> Vec<Observation> {
     let (fresh, _) = fresh_record(10);
     let held = |windows: u64| {
         let full = [LARGEST_VALUE; ORDER_COUNT];
@@ -412,29 +424,54 @@ fn print_record_edges<W: Write>(printer: &mut Printer<W>) -> Result<()> {
             records.push(record);
         }
     }
-    for record in records {
+    records
+}
+
+/// The verdicts on the last record, in a class or with a letter that is refused,
+/// at the edges of order and scale.
+fn print_edge_verdicts<W: Write>(
+    printer: &mut Printer<W>,
+    record: &Observation,
+    class_letter: u8,
+) -> Result<()> {
+    for order in EDGE_ORDERS {
+        for scale in EDGE_SCALES {
+            printer.verdict_case(record, Question { order, class_letter, scale })?;
+        }
+    }
+    Ok(())
+}
+
+fn print_record_edges<W: Write>(printer: &mut Printer<W>) -> Result<()> {
+    for record in edge_records() {
         for system in [10, 11, 12] {
             printer.record(&record)?;
             printer.row_case(record.clone(), &Row { system, values: [u32::MAX; ORDER_COUNT] })?;
         }
         printer.record(&record)?;
-        for order in [0, 1, 2, 40, 41] {
-            for scale in [0, 1, 268_435_456, 268_435_457] {
-                printer.verdict_case(&record, order, scale)?;
-            }
-        }
+        print_edge_verdicts(printer, &record, b'A')?;
     }
     Ok(())
+}
+
+/// The last number of so many bits that has a property and the one after it; none
+/// where 0 has it not.
+fn last_and_next(bits: u32, holds: impl Fn(u64) -> bool) -> Vec<u64> {
+    if !holds(0) {
+        return Vec::new();
+    }
+    let last = largest(bits, holds);
+    vec![last, last + 1]
 }
 
 /// Sums and peaks about the places where the verdict on an order changes; they
 /// are found from the verdict itself, by halving.
 fn print_verdicts_about<W: Write>(
     printer: &mut Printer<W>,
-    order: u64,
-    scale: u64,
+    question: Question,
     windows: u64,
 ) -> Result<()> {
+    let order = question.order;
     let place = order as usize - 1;
     let with = |sum: u64, peak: u64| {
         let (mut record, _) = fresh_record(10);
@@ -443,38 +480,86 @@ fn print_verdicts_about<W: Write>(
         record.peak[place] = peak;
         record
     };
-    let verdict_on = |record: &Observation| order_verdict(record, Question { order, scale });
+    let verdict_on = |record: &Observation| order_verdict(record, question);
     let is_within = |record: &Observation| verdict_on(record) == Ok(Verdict::Within(order));
     let is_not_over = |record: &Observation| verdict_on(record) != Ok(Verdict::Over(order));
-    let last_sums = [
-        largest(32, |sum| is_within(&with(sum, 0))),
-        largest(32, |sum| is_not_over(&with(sum, 0))),
+    // A record of such values is sound, and the greatest of them pass every limit.
+    let peak_bits = 31;
+    let sum_bits = peak_bits + windows.ilog2();
+    let sums = [
+        last_and_next(sum_bits, |sum| is_within(&with(sum, 0))),
+        last_and_next(sum_bits, |sum| is_not_over(&with(sum, 0))),
     ];
-    let last_peaks = [
-        largest(31, |peak| is_within(&with(0, peak))),
-        largest(31, |peak| is_not_over(&with(0, peak))),
+    let peaks = [
+        last_and_next(peak_bits, |peak| is_within(&with(0, peak))),
+        last_and_next(peak_bits, |peak| is_not_over(&with(0, peak))),
     ];
-    let sums = last_sums.iter().flat_map(|&sum| [with(sum, 0), with(sum + 1, 0)]);
-    let peaks = last_peaks.iter().flat_map(|&peak| [with(0, peak), with(0, peak + 1)]);
+    let sums = sums.concat().into_iter().map(|sum| with(sum, 0));
+    let peaks = peaks.concat().into_iter().map(|peak| with(0, peak));
     for record in sums.chain(peaks) {
         printer.record(&record)?;
-        printer.verdict_case(&record, order, scale)?;
+        printer.verdict_case(&record, question)?;
     }
     Ok(())
 }
 
-fn print_limits<W: Write>(printer: &mut Printer<W>) -> Result<()> {
-    printer.comment("the limit of each order")?;
+fn print_limits<W: Write>(printer: &mut Printer<W>, class_letter: u8) -> Result<()> {
     for order in (0..=42).chain([u64::from(u32::MAX)]) {
-        printer.limit_case(order)?;
+        printer.limit_case(order, class_letter)?;
     }
     Ok(())
 }
 
-fn print_verdicts<W: Write>(printer: &mut Printer<W>) -> Result<()> {
+fn print_verdicts<W: Write>(printer: &mut Printer<W>, class_letter: u8) -> Result<()> {
     for order in 2..=40 {
-        for (scale, windows) in [(1_000_000, 1), (987_654, 7), (268_435_456, 3)] {
-            print_verdicts_about(printer, order, scale, windows)?;
+        for (scale, windows) in [(1_000_000, 1), (987_654, 7), (LARGEST_SCALE, 3)] {
+            print_verdicts_about(printer, Question { order, class_letter, scale }, windows)?;
+        }
+    }
+    Ok(())
+}
+
+/// Class B: limits and verdicts as of class A; verdicts where both limits of an
+/// order are whole numbers of units, so that a value more or less the margin can
+/// be equal to its limit, and where scale and windows are the least and the most.
+/// At a scale of 1 the margin is above every limit, and nothing is within.
+fn print_class_b<W: Write>(printer: &mut Printer<W>, random: &mut Random) -> Result<()> {
+    let class_letter = b'B';
+    printer.comment("class B")?;
+    print_limits(printer, class_letter)?;
+    print_records(printer, random, class_letter)?;
+    print_verdicts(printer, class_letter)?;
+    for order in 2..=40 {
+        for (scale, windows) in [
+            (2_000 * order, 1),
+            (1, 1),
+            (1, MOST_WINDOWS),
+            (LARGEST_SCALE, 1),
+            (LARGEST_SCALE, MOST_WINDOWS),
+        ] {
+            print_verdicts_about(printer, Question { order, class_letter, scale }, windows)?;
+        }
+    }
+    Ok(())
+}
+
+/// Letters of no class, and which of several faults decides.
+fn print_other_letters<W: Write>(printer: &mut Printer<W>) -> Result<()> {
+    printer.comment("letters of no class")?;
+    let (mut record, _) = fresh_record(10);
+    record.windows = 1;
+    printer.record(&record)?;
+    for class_letter in (0..=u8::MAX).filter(|letter| !b"AB".contains(letter)) {
+        for order in EDGE_ORDERS {
+            printer.limit_case(order, class_letter)?;
+        }
+        printer.verdict_case(&record, Question { order: 3, class_letter, scale: 1_000_000 })?;
+    }
+    printer.comment("class B and letters of no class at each edge of a verdict")?;
+    for record in edge_records() {
+        printer.record(&record)?;
+        for class_letter in [b'B', 0, b'@', b'C', b'D', b'a', b'b', b'd', u8::MAX] {
+            print_edge_verdicts(printer, &record, class_letter)?;
         }
     }
     Ok(())
@@ -581,11 +666,14 @@ pub fn print_vectors(seed: u64, output: impl Write) -> Result<()> {
     print_line_parts(printer, seed)?;
     print_groups(printer, random)?;
     print_distortions(printer, random)?;
-    print_records(printer, random)?;
+    print_records(printer, random, b'A')?;
     print_record_edges(printer)?;
     print_observations(printer, seed)?;
-    print_limits(printer)?;
-    print_verdicts(printer)?;
+    printer.comment("the limit of each order")?;
+    print_limits(printer, b'A')?;
+    print_verdicts(printer, b'A')?;
     print_columns(printer, random)?;
-    print_listings(printer, random)
+    print_listings(printer, random)?;
+    print_class_b(printer, random)?;
+    print_other_letters(printer)
 }

@@ -1,7 +1,8 @@
-//! Class A verdicts (document 01, section of that name). Limits stay the exact
-//! fractions of the rule, and fractions are compared by cross products.
+//! Verdicts (document 01, "Class A verdicts"), in a class (document 02, card 1).
+//! Limits stay the exact fractions of the rule, and fractions are compared by
+//! cross products.
 
-use crate::limits::{has_limit, limit_by_rule};
+use crate::limits::{Class, Limit, has_limit, limit_by_rule};
 use crate::observation::{Observation, is_sound};
 use crate::refusals::Refusal;
 
@@ -10,11 +11,13 @@ pub const LARGEST_SCALE: u64 = 1 << 28;
 /// How far a smoothed value may lie from the exact one, in units.
 const SMOOTHED_MARGIN: i128 = 12;
 
-/// What is asked: the verdict on an order at a scale.
+/// What is asked: the verdict on an order in a class at a scale.
 #[derive(Clone, Copy, Debug, PartialEq, Eq)]
 pub struct Question {
     /// The order.
     pub order: u64,
+    /// The letter of the class.
+    pub class_letter: u8,
     /// K, the units per ampere.
     pub scale: u64,
 }
@@ -47,9 +50,8 @@ impl Fraction {
     }
 }
 
-/// The limit in units: the mA figure × K / 1000, and that times `percent` / 100.
-fn limit_in_units(order: u64, scale: u64, percent: i128) -> Fraction {
-    let milliamperes = limit_by_rule(order);
+/// A limit in units: the mA figure × K / 1000, and that times `percent` / 100.
+fn limit_in_units(milliamperes: Limit, scale: u64, percent: i128) -> Fraction {
     Fraction {
         numerator: i128::from(milliamperes.numerator) * i128::from(scale) * percent,
         denominator: i128::from(milliamperes.denominator) * 1_000 * 100,
@@ -68,9 +70,9 @@ fn test(value: Fraction, limit: Fraction, order: u64) -> Verdict {
     }
 }
 
-/// The verdict on an order. Refused in this order: 7, 10, 6, 11.
+/// The verdict on an order. Refused in this order: 7, 10, 6, 15, 11.
 pub fn order_verdict(observation: &Observation, question: Question) -> Result<Verdict, Refusal> {
-    let Question { order, scale } = question;
+    let Question { order, class_letter, scale } = question;
     if !is_sound(observation) {
         return Err(Refusal::UnsoundRecord);
     }
@@ -80,6 +82,7 @@ pub fn order_verdict(observation: &Observation, question: Question) -> Result<Ve
     if !has_limit(order) {
         return Err(Refusal::OrderOutOfRange);
     }
+    let class = Class::of_letter(class_letter)?;
     if !(1..=LARGEST_SCALE).contains(&scale) {
         return Err(Refusal::ScaleOutOfRange);
     }
@@ -89,9 +92,10 @@ pub fn order_verdict(observation: &Observation, question: Question) -> Result<Ve
         denominator: observation.windows.into(),
     };
     let peak = Fraction { numerator: observation.peak[place].into(), denominator: 1 };
+    let limit = limit_by_rule(order, class);
     let tests = [
-        test(average, limit_in_units(order, scale, 100), order),
-        test(peak, limit_in_units(order, scale, 150), order),
+        test(average, limit_in_units(limit, scale, 100), order),
+        test(peak, limit_in_units(limit, scale, 150), order),
     ];
     Ok(if tests.contains(&Verdict::Over(order)) {
         Verdict::Over(order)

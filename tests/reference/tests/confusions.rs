@@ -1,5 +1,5 @@
-//! The confusions that document 01 expects: each test names one and shows that
-//! this program does not share it.
+//! The confusions that document 01 expects, and those about class B: each test
+//! names one and shows that this program does not share it.
 
 use reference::groups::{Kind, group_value};
 use reference::observation::{add_row, fresh_record, smoothed_value};
@@ -58,27 +58,40 @@ fn values_are_smoothed_and_not_their_squares() {
     assert_eq!(smoothed_value(0, 8_944), 7_828);
 }
 
-/// The verdict on one window with a value at every order.
-fn verdict_on(value: u32, order: u64, scale: u64) -> Verdict {
+/// The verdict on one window with a value at every order, at a million units per
+/// ampere.
+fn verdict_on(value: u32, order: u64, class_letter: u8) -> Verdict {
     let (record, _) = fresh_record(10);
     let (record, _) = add_row(record, &Row { system: 10, values: [value; 40] });
-    order_verdict(&record, Question { order, scale }).unwrap()
+    order_verdict(&record, Question { order, class_letter, scale: 1_000_000 }).unwrap()
 }
 
 #[test]
 fn limit_is_not_divided_before_it_is_compared() {
-    // 2250/39 mA at a million units per ampere is 57692 and 4/13 units.
-    assert_eq!(verdict_on(57_680, 39, 1_000_000), Verdict::Within(39));
-    assert_eq!(verdict_on(57_681, 39, 1_000_000), Verdict::Close(39));
-    assert_eq!(verdict_on(57_704, 39, 1_000_000), Verdict::Close(39));
-    assert_eq!(verdict_on(57_705, 39, 1_000_000), Verdict::Over(39));
+    // 2250/39 mA is 57692 and 4/13 units.
+    assert_eq!(verdict_on(57_680, 39, b'A'), Verdict::Within(39));
+    assert_eq!(verdict_on(57_681, 39, b'A'), Verdict::Close(39));
+    assert_eq!(verdict_on(57_704, 39, b'A'), Verdict::Close(39));
+    assert_eq!(verdict_on(57_705, 39, b'A'), Verdict::Over(39));
 }
 
 #[test]
-fn band_lies_on_both_sides() {
-    for (below, above) in [(2_299_988, 2_300_012), (2_299_989, 2_300_013)] {
-        let sides = [verdict_on(below, 3, 1_000_000), verdict_on(above, 3, 1_000_000)];
-        assert!(sides.contains(&Verdict::Close(3)));
-        assert_ne!(sides[0], sides[1]);
+fn class_b_is_not_150_per_cent_of_whole_units() {
+    // Class A's 2250/35 mA is 64285 and 5/7 units, class B's limit 96428 and 4/7;
+    // 150 % of 64285 would be less by 1 and 1/14.
+    assert_eq!(verdict_on(96_416, 35, b'B'), Verdict::Within(35));
+    assert_eq!(verdict_on(96_417, 35, b'B'), Verdict::Close(35));
+    assert_eq!(verdict_on(96_440, 35, b'B'), Verdict::Close(35));
+    assert_eq!(verdict_on(96_441, 35, b'B'), Verdict::Over(35));
+}
+
+#[test]
+fn band_lies_on_both_sides_and_is_not_wider_in_class_b() {
+    for (limit, class_letter) in [(2_300_000, b'A'), (3_450_000, b'B')] {
+        for (below, above) in [(limit - 12, limit + 12), (limit - 11, limit + 13)] {
+            let sides = [verdict_on(below, 3, class_letter), verdict_on(above, 3, class_letter)];
+            assert!(sides.contains(&Verdict::Close(3)));
+            assert_ne!(sides[0], sides[1]);
+        }
     }
 }

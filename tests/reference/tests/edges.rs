@@ -1,5 +1,5 @@
 //! Edges of every public function, and the order of its refusals (document 01,
-//! "Where each refusal is checked").
+//! "Where each refusal is checked", and document 02).
 
 use reference::columns::{column_text, read_column, write_column};
 use reference::distortion::distortion;
@@ -292,32 +292,56 @@ fn smoothing_rounds_to_the_nearest() {
 fn verdict_refuses_in_order() {
     let (fresh, _) = fresh_record(10);
     let held = full_record(1);
-    for (record, order, scale, expected) in [
-        (&full_record(45_001), 1, 0, Refusal::UnsoundRecord),
-        (&fresh, 1, 0, Refusal::NoWindow),
-        (&fresh, 3, 1, Refusal::NoWindow),
-        (&held, 1, 0, Refusal::OrderOutOfRange),
-        (&held, 0, 1, Refusal::OrderOutOfRange),
-        (&held, 41, 0, Refusal::OrderOutOfRange),
-        (&held, 2, 0, Refusal::ScaleOutOfRange),
-        (&held, 40, 268_435_457, Refusal::ScaleOutOfRange),
+    for (record, order, class_letter, scale, expected) in [
+        (&full_record(45_001), 1, b'C', 0, Refusal::UnsoundRecord),
+        (&fresh, 1, b'C', 0, Refusal::NoWindow),
+        (&fresh, 3, b'A', 1, Refusal::NoWindow),
+        (&fresh, 3, b'C', 1, Refusal::NoWindow),
+        (&held, 1, b'C', 0, Refusal::OrderOutOfRange),
+        (&held, 0, b'A', 1, Refusal::OrderOutOfRange),
+        (&held, 41, b'A', 0, Refusal::OrderOutOfRange),
+        (&held, 41, b'C', 1, Refusal::OrderOutOfRange),
+        (&held, 2, b'C', 0, Refusal::UnknownClass),
+        (&held, 2, b'C', 1, Refusal::UnknownClass),
+        (&held, 40, b'@', 268_435_457, Refusal::UnknownClass),
+        (&held, 40, b'@', 268_435_456, Refusal::UnknownClass),
+        (&held, 2, b'A', 0, Refusal::ScaleOutOfRange),
+        (&held, 40, b'B', 268_435_457, Refusal::ScaleOutOfRange),
     ] {
-        assert_eq!(order_verdict(record, Question { order, scale }), Err(expected));
+        assert_eq!(order_verdict(record, Question { order, class_letter, scale }), Err(expected));
     }
-    assert_eq!(order_verdict(&held, Question { order: 2, scale: 1 }), Ok(Verdict::Over(2)));
-    assert_eq!(
-        order_verdict(&held, Question { order: 40, scale: 268_435_456 }),
-        Ok(Verdict::Over(40))
-    );
+    for class_letter in [b'A', b'B'] {
+        for (order, scale) in [(2, 1), (40, 268_435_456)] {
+            let verdict = order_verdict(&held, Question { order, class_letter, scale });
+            assert_eq!(verdict, Ok(Verdict::Over(order)));
+        }
+    }
+}
+
+#[test]
+fn only_two_letters_are_taken() {
+    let held = full_record(1);
+    for class_letter in 0..=u8::MAX {
+        let taken = class_letter == 65 || class_letter == 66;
+        let expected = if taken { Ok(Verdict::Over(3)) } else { Err(Refusal::UnknownClass) };
+        let question = Question { order: 3, class_letter, scale: 1_000_000 };
+        assert_eq!(order_verdict(&held, question), expected, "{class_letter}");
+    }
+}
+
+/// The verdict on an order in a class, of a record with a sum and a peak there.
+fn verdict_of(question: Question, windows: u64, sum: u64, peak: u64) -> Verdict {
+    let (mut record, _) = fresh_record(10);
+    record.windows = windows;
+    record.sum[question.order as usize - 1] = sum;
+    record.peak[question.order as usize - 1] = peak;
+    order_verdict(&record, question).unwrap()
 }
 
 /// The verdict on order 3 with 2,300,000 units of limit and 3,450,000 of peak.
 fn verdict_on_order_3(windows: u64, sum: u64, peak: u64) -> Verdict {
-    let (mut record, _) = fresh_record(10);
-    record.windows = windows;
-    record.sum[2] = sum;
-    record.peak[2] = peak;
-    order_verdict(&record, Question { order: 3, scale: 1_000_000 }).unwrap()
+    let question = Question { order: 3, class_letter: b'A', scale: 1_000_000 };
+    verdict_of(question, windows, sum, peak)
 }
 
 #[test]
@@ -344,19 +368,58 @@ fn one_test_over_outweighs_the_other() {
     assert_eq!(verdict_on_order_3(1, 0, 3_450_000), Verdict::Close(3));
 }
 
+/// Where a verdict changes: an order, a scale, a count of windows, the last sum
+/// within and the last that is not over, of a record with no peak there, and the
+/// same of the peak, with no sum.
+type Edge = (u64, u64, u64, [u64; 2], [u64; 2]);
+
+const CLASS_B_EDGES: [Edge; 10] = [
+    // 3450 mA: 3450000 units, and 5175000 for the peak.
+    (3, 1_000_000, 1, [3_449_988, 3_450_012], [5_174_988, 5_175_012]),
+    // At the largest scale 926102323 and 1/5, and 1389153484 and 4/5.
+    (3, 268_435_456, 1, [926_102_311, 926_102_335], [1_389_153_472, 1_389_153_496]),
+    (3, 268_435_456, 5, [4_630_511_556, 4_630_511_676], [1_389_153_472, 1_389_153_496]),
+    // 230 mA, where class A's limit is not whole.
+    (12, 1_000_000, 1, [229_988, 230_012], [344_988, 345_012]),
+    // 345/2 mA, where class A's limit is whole.
+    (16, 1_000_000, 1, [172_488, 172_512], [258_738, 258_762]),
+    (16, 1_000_000, 45_000, [7_761_960_000, 7_763_040_000], [258_738, 258_762]),
+    // 345/4 mA: 86 and 1/4 units, and 129 and 3/8.
+    (32, 1_000, 1, [74, 98], [117, 141]),
+    // 675/7 mA: 96428 and 4/7 units, and 144642 and 6/7.
+    (35, 1_000_000, 7, [674_916, 675_084], [144_630, 144_654]),
+    // 1125/13 mA: 86538 and 6/13 units, and 129807 and 9/13.
+    (39, 1_000_000, 1, [86_526, 86_550], [129_795, 129_819]),
+    (39, 1_000_000, 13, [1_124_844, 1_125_156], [129_795, 129_819]),
+];
+
+#[test]
+fn class_b_has_the_band_and_both_tests() {
+    for (order, scale, windows, sums, peaks) in CLASS_B_EDGES {
+        let question = Question { order, class_letter: b'B', scale };
+        let about = |[within, not_over]: [u64; 2]| [within, within + 1, not_over, not_over + 1];
+        let expected = [Verdict::Within, Verdict::Close, Verdict::Close, Verdict::Over];
+        let expected = expected.map(|verdict| verdict(order));
+        let by_sum = about(sums).map(|sum| verdict_of(question, windows, sum, 0));
+        assert_eq!(by_sum, expected, "{question:?}");
+        let by_peak = about(peaks).map(|peak| verdict_of(question, windows, 0, peak));
+        assert_eq!(by_peak, expected, "{question:?}");
+    }
+}
+
+#[test]
+fn nothing_is_within_where_the_margin_is_above_the_limit() {
+    // With one unit in an ampere class B's 3450 mA are 3.45 units, and 5.175 for the peak.
+    let question = Question { order: 3, class_letter: b'B', scale: 1 };
+    let expected = [Verdict::Close(3), Verdict::Close(3), Verdict::Over(3)];
+    assert_eq!([0, 309, 310].map(|sum| verdict_of(question, 20, sum, 0)), expected);
+    assert_eq!([0, 17, 18].map(|peak| verdict_of(question, 20, 0, peak)), expected);
+}
+
 /// The greatest value of one window that is within, at a million units.
-fn last_within(order: usize) -> u64 {
-    let record_of = |value: u64| {
-        let (mut record, _) = fresh_record(10);
-        record.windows = 1;
-        record.sum[order - 1] = value;
-        record
-    };
-    let order = order as u64;
-    let is_within = |value| {
-        order_verdict(&record_of(value), Question { order, scale: 1_000_000 })
-            == Ok(Verdict::Within(order))
-    };
+fn last_within(order: u64, class_letter: u8) -> u64 {
+    let question = Question { order, class_letter, scale: 1_000_000 };
+    let is_within = |value| verdict_of(question, 1, value, 0) == Verdict::Within(order);
     reference::largest::largest(22, is_within)
 }
 
@@ -364,14 +427,19 @@ fn last_within(order: usize) -> u64 {
 fn limits_are_those_of_the_text() {
     let whole =
         [(2, 1080), (3, 2300), (4, 430), (5, 1140), (6, 300), (7, 770), (9, 400), (11, 330)];
+    // Class A's limit and 150 % of it, both in units.
+    let check = |order, numerator: u64, denominator: u64| {
+        assert_eq!(last_within(order, b'A'), numerator / denominator - 12);
+        assert_eq!(last_within(order, b'B'), 3 * numerator / (2 * denominator) - 12);
+    };
     for (order, milliamperes) in whole.into_iter().chain([(13, 210)]) {
-        assert_eq!(last_within(order), 1_000 * milliamperes - 12);
+        check(order, 1_000 * milliamperes, 1);
     }
     for order in (15..=39).step_by(2) {
-        assert_eq!(last_within(order), 2_250_000 / order as u64 - 12);
+        check(order, 2_250_000, order);
     }
     for order in (8..=40).step_by(2) {
-        assert_eq!(last_within(order), 1_840_000 / order as u64 - 12);
+        check(order, 1_840_000, order);
     }
 }
 

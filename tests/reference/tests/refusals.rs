@@ -71,6 +71,7 @@ fn document() -> Vec<Listed> {
 struct Arguments {
     system: u64,
     order: u64,
+    class_letter: u8,
     scale: u64,
     recording: Vec<i32>,
     start: usize,
@@ -91,6 +92,7 @@ fn good() -> Arguments {
     Arguments {
         system: 10,
         order: 3,
+        class_letter: b'B',
         scale: 1,
         recording: vec![0; 2 * WINDOW_LENGTH],
         start: 0,
@@ -181,6 +183,14 @@ fn trials() -> Vec<Trial> {
         (6, limited, |a| a.order = 1),
         (6, limited, |a| a.order = 41),
         (6, limited, |a| a.order = u64::from(u32::MAX)),
+    ];
+    let letter = "class letter not A or B";
+    let letters: [Fault; 5] = [
+        (15, letter, |a| a.class_letter = 0),
+        (15, letter, |a| a.class_letter = b'@'),
+        (15, letter, |a| a.class_letter = b'C'),
+        (15, letter, |a| a.class_letter = b'a'),
+        (15, letter, |a| a.class_letter = u8::MAX),
     ];
     let unsound = "record not sound";
     let records: [Fault; 3] = [
@@ -293,20 +303,22 @@ fn trials() -> Vec<Trial> {
         trial(
             "limit",
             "the limit 0/1",
-            |a| number_or_zero(&order_limit(a.order)),
-            &[&limited_orders],
+            |a| number_or_zero(&order_limit(a.order, a.class_letter)),
+            &[&limited_orders, &letters],
         ),
         trial(
             "verdict",
             "nothing",
             |a| {
-                let question = Question { order: a.order, scale: a.scale };
+                let (order, class_letter, scale) = (a.order, a.class_letter, a.scale);
+                let question = Question { order, class_letter, scale };
                 number_or_zero(&order_verdict(&a.record, question))
             },
             &[
                 &records,
                 &[(10, "no window yet", |a| a.record.windows = 0)],
                 &limited_orders,
+                &letters,
                 &[(11, scale, |a| a.scale = 0), (11, scale, |a| a.scale = LARGEST_SCALE + 1)],
             ],
         ),

@@ -27,6 +27,10 @@ fn record_of(system: u64, values: &[u32]) -> Observation {
     })
 }
 
+fn asked_in_class_a(order: u64, scale: u64) -> Question {
+    Question { order, class_letter: b'A', scale }
+}
+
 #[test]
 fn number_1_table_entries() {
     let table = quarter_wave();
@@ -69,7 +73,7 @@ fn number_9_verdicts_on_order_3() {
         (2_300_013, Verdict::Over(3)),
     ] {
         assert_eq!(
-            order_verdict(&record_of(12, &[value]), Question { order: 3, scale: 1_000_000 }),
+            order_verdict(&record_of(12, &[value]), asked_in_class_a(3, 1_000_000)),
             Ok(expected),
             "{value}"
         );
@@ -96,11 +100,11 @@ fn unmarked_orders() {
     assert_eq!(value(40), Ok(2_828));
     assert_eq!(value(41), Err(Refusal::OrderOutOfRange));
     assert_eq!(
-        order_verdict(&record_of(10, &[0]), Question { order: 40, scale: 1_000_000 }),
+        order_verdict(&record_of(10, &[0]), asked_in_class_a(40, 1_000_000)),
         Ok(Verdict::Within(40))
     );
     assert_eq!(
-        order_verdict(&record_of(10, &[0]), Question { order: 41, scale: 1_000_000 }),
+        order_verdict(&record_of(10, &[0]), asked_in_class_a(41, 1_000_000)),
         Err(Refusal::OrderOutOfRange)
     );
 }
@@ -108,12 +112,9 @@ fn unmarked_orders() {
 #[test]
 fn unmarked_scales() {
     let record = record_of(10, &[0]);
+    assert_eq!(order_verdict(&record, asked_in_class_a(2, 268_435_456)), Ok(Verdict::Within(2)));
     assert_eq!(
-        order_verdict(&record, Question { order: 2, scale: 268_435_456 }),
-        Ok(Verdict::Within(2))
-    );
-    assert_eq!(
-        order_verdict(&record, Question { order: 2, scale: 268_435_457 }),
+        order_verdict(&record, asked_in_class_a(2, 268_435_457)),
         Err(Refusal::ScaleOutOfRange)
     );
 }
