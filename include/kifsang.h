@@ -2,15 +2,15 @@
  * kifsang.h: the harmonic core of a power analyser, for C and C++ programs.
  *
  * From the samples of a mains current to its spectrum, its harmonic and interharmonic groups
- * after IEC 61000-4-7, values smoothed over 1.5 s, and a verdict for each order against class A of
- * IEC 61000-3-2. Each function is proved to answer what its definition says, for every input.
+ * after IEC 61000-4-7, values smoothed over 1.5 s, and a verdict for each order against class A or B
+ * of IEC 61000-3-2. Each function is proved to answer what its definition says, for every input.
  * Kifsang is the name of the product; every symbol begins with it.
  *
  * From samples to verdicts
  *
  *     kifsang_observe        windows back to back         ->  the record after them
- *     kifsang_verdict        a record and an order        ->  within, close or over
- *     kifsang_limit          an order                     ->  its limit, for a report or a chart
+ *     kifsang_verdict        a record, an order, a class  ->  within, close or over
+ *     kifsang_limit          an order and a class         ->  its limit, for a report or a chart
  *
  *     The same record a window at a time, where memory holds no more:
  *
@@ -50,9 +50,9 @@
  * Limits
  *
  *     Class A, in milliamperes: order 2 1080, 3 2300, 4 430, 5 1140, 6 300, 7 770, 9 400, 11 330,
- *     13 210; odd orders 15..39 2250/order; even orders 8..40 1840/order. kifsang_limit answers each in
- *     lowest terms. With K units per ampere the limit in units is that figure * K / 1000, as an exact
- *     fraction.
+ *     13 210; odd orders 15..39 2250/order; even orders 8..40 1840/order. Class B, for portable tools:
+ *     150 % of class A at every order. kifsang_limit answers each in lowest terms. With K units per ampere
+ *     the limit in units is that figure * K / 1000, as an exact fraction.
  *
  * Order in buffers
  *
@@ -140,6 +140,7 @@ enum kifsang_refusal {
     KIFSANG_NO_FUNDAMENTAL = 12,      /* the value of order 1 is 0 */
     KIFSANG_NOT_A_COLUMN = 13,        /* no number column, or a number wider than its column */
     KIFSANG_WRONG_BUFFER_LENGTH = 14, /* a text buffer of the wrong length */
+    KIFSANG_UNKNOWN_CLASS = 15,       /* a class letter other than A or B */
     KIFSANG_UNKNOWN_KIND = 101,       /* a number that stands for no kind */
     KIFSANG_WRONG_WORD_COUNT = 102    /* not 40 words for a row, or not 122 for a record */
 };
@@ -151,6 +152,12 @@ enum kifsang_kind {
     KIFSANG_HARMONIC_SUBGROUP = 2,
     KIFSANG_INTERHARMONIC_GROUP = 3,
     KIFSANG_INTERHARMONIC_CENTRED_SUBGROUP = 4
+};
+
+/* Whose limits hold: the class of the equipment, by its letter, a byte of ASCII. Small letters are none. */
+enum kifsang_class {
+    KIFSANG_CLASS_A = 'A',
+    KIFSANG_CLASS_B = 'B' /* portable tools */
 };
 
 /* How an order stands to its limit. 0 is none of them: a variable that was zeroed, and that a refused
@@ -321,23 +328,27 @@ uint32_t kifsang_observe(const int32_t *recording, uint64_t recording_length, ui
                          uint64_t record_words);
 
 /*
- * Looks up the limit of an order: the milliamperes r.m.s. up to which class A lets its average go, as an
- * exact fraction in lowest terms. Its peak may go up to KIFSANG_PEAK_PERCENT per cent of that. It is to be
- * printed or drawn; kifsang_verdict compares with the fraction itself, and a rounded quotient is none.
+ * Looks up the limit of an order in a class: the milliamperes r.m.s. up to which the class lets its
+ * average go, as an exact fraction in lowest terms. Its peak may go up to KIFSANG_PEAK_PERCENT per cent of
+ * that. It is to be printed or drawn; kifsang_verdict compares with the fraction itself, and a rounded
+ * quotient is none.
  *
- *   order        in    2..40
- *   numerator    out   one number, at most 2300
- *   denominator  out   one number, 1..37; no number but 1 divides both
+ *   order         in    2..40
+ *   class_letter  in    'A' or 'B', an enum kifsang_class
+ *   numerator     out   one number, at most 3450
+ *   denominator   out   one number, 1..37; no number but 1 divides both
  *
- * Refusals: 6 order outside 2..40. A refused call leaves both numbers as they were.
+ * Refusals: 6 order outside 2..40; 15 class_letter not A or B. A refused call leaves both numbers as
+ *   they were.
  * Proved error: none, the fraction is exact.
  * Definition: limitRefusal, crates/limits/specs/Call.antt, and limitNumeratorExit and
  *   limitDenominatorExit, crates/exported_limits/specs/LimitCall.antt.
  */
-uint32_t kifsang_limit(uint32_t order, uint64_t *numerator, uint64_t *denominator);
+uint32_t kifsang_limit(uint32_t order, uint8_t class_letter, uint64_t *numerator,
+                       uint64_t *denominator);
 
 /*
- * Judges an order against its class A limit: the average of its smoothed values against the limit,
+ * Judges an order against its limit in a class: the average of its smoothed values against the limit,
  * their peak against 150 % of it. A test is within if the value + 12 is at most its limit, over if the
  * value - 12 exceeds it, else close. The verdict is over if either test is, within if both are, else
  * close.
@@ -345,17 +356,19 @@ uint32_t kifsang_limit(uint32_t order, uint64_t *numerator, uint64_t *denominato
  *   record            in    record_words words; any words may be handed over
  *   record_words      in    122
  *   order             in    2..40
+ *   class_letter      in    'A' or 'B', an enum kifsang_class
  *   units_per_ampere  in    1..268435456, the units that one ampere r.m.s. gives
  *   verdict           out   one number, 1..3, an enum kifsang_verdict_number
  *
  * Refusals: 102 record_words is not 122; 7 the record is not sound; 10 no window yet; 6 order outside
- *   2..40; 11 units_per_ampere outside 1..2^28. A refused call leaves the verdict as it was.
+ *   2..40; 15 class_letter not A or B; 11 units_per_ampere outside 1..2^28. A refused call leaves the
+ *   verdict as it was.
  * Proved error: after calls as above, within and over hold for the exact average and peak too; close
  *   is given only where the average or the peak is at most 12 units from its limit (exported-demand3).
  * Definition: verdictCallRefusal and verdictCallExit, crates/exported_records/specs/VerdictCall.antt.
  */
 uint32_t kifsang_verdict(const uint64_t *record, uint64_t record_words, uint32_t order,
-                         uint32_t units_per_ampere, uint32_t *verdict);
+                         uint8_t class_letter, uint32_t units_per_ampere, uint32_t *verdict);
 
 /*
  * Reads a number column: 8 bytes, right-justified, blanks before, a minus directly before the

@@ -1,7 +1,7 @@
 //! From samples to verdicts: the current of `examples/c/verdicts.c`, judged against class A.
 
 use kifsang::{Kind, Refusal, Verdict};
-use kifsang::{ORDER_COUNT, RECORD_WORDS, UNITS_PER_COUNT, WINDOW_LENGTH};
+use kifsang::{CLASS_A, ORDER_COUNT, RECORD_WORDS, UNITS_PER_COUNT, WINDOW_LENGTH};
 use std::f64::consts::TAU;
 
 /// Cycles in a window: 50 Hz.
@@ -32,7 +32,7 @@ fn main() -> Result<(), Refusal> {
         &mut record,
     )?;
     for order in 2..=ORDER_COUNT as u32 {
-        let name = match kifsang::verdict(&record, order, UNITS_PER_AMPERE)? {
+        let name = match kifsang::verdict(&record, order, CLASS_A, UNITS_PER_AMPERE)? {
             Verdict::Within => "within",
             Verdict::Close => "close",
             Verdict::Over => "over",

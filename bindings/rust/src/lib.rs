@@ -10,7 +10,7 @@
 //! From samples to verdicts:
 //!
 //! ```
-//! use kifsang::{Kind, Verdict, RECORD_WORDS, UNITS_PER_COUNT, WINDOW_LENGTH};
+//! use kifsang::{Kind, Verdict, CLASS_A, CLASS_B, RECORD_WORDS, UNITS_PER_COUNT, WINDOW_LENGTH};
 //!
 //! // Fifteen windows of 0.2 s at 50 Hz: a square wave of 5 A, 1,600 counts per ampere.
 //! let recording: Vec<i32> = (0..15 * WINDOW_LENGTH)
@@ -19,8 +19,10 @@
 //! let mut record = [0; RECORD_WORDS];
 //! kifsang::observe(&recording, 0, 15, 10, Kind::HarmonicGroup, &mut record)?;
 //! let units_per_ampere = 1600 * UNITS_PER_COUNT;
-//! assert_eq!(kifsang::verdict(&record, 3, units_per_ampere)?, Verdict::Within);
-//! assert_eq!(kifsang::verdict(&record, 9, units_per_ampere)?, Verdict::Over);
+//! assert_eq!(kifsang::verdict(&record, 3, CLASS_A, units_per_ampere)?, Verdict::Within);
+//! assert_eq!(kifsang::verdict(&record, 9, CLASS_A, units_per_ampere)?, Verdict::Over);
+//! // 0.5 A at order 9, where a portable tool may have half as much again as 0.4 A.
+//! assert_eq!(kifsang::verdict(&record, 9, CLASS_B, units_per_ampere)?, Verdict::Within);
 //! # Ok::<(), kifsang::Refusal>(())
 //! ```
 //!
@@ -54,6 +56,11 @@ pub const LISTING_ROOM: usize = 1640;
 pub const SMOOTHED_MARGIN: u32 = 12;
 /// Per cent of the limit: what the peak of an order is judged against.
 pub const PEAK_PERCENT: u32 = 150;
+
+/// The class letter of class A. Any byte may be handed over as a class letter; the core looks at it.
+pub const CLASS_A: u8 = b'A';
+/// The class letter of class B: portable tools.
+pub const CLASS_B: u8 = b'B';
 
 /// The place of the system among a record's words.
 pub const SYSTEM_PLACE: usize = 0;
@@ -107,6 +114,7 @@ refusals! {
     12 NO_FUNDAMENTAL "the value of order 1 is 0"
     13 NOT_A_COLUMN "no number column, or a number wider than its column"
     14 WRONG_BUFFER_LENGTH "a text buffer of the wrong length"
+    15 UNKNOWN_CLASS "a class letter other than A or B"
     101 UNKNOWN_KIND "a number that stands for no kind"
     102 WRONG_WORD_COUNT "not 40 words for a row, or not 122 for a record"
 }
@@ -211,11 +219,17 @@ mod raw {
             record: *mut u64,
             record_words: u64,
         ) -> u32;
-        pub fn kifsang_limit(order: u32, numerator: *mut u64, denominator: *mut u64) -> u32;
+        pub fn kifsang_limit(
+            order: u32,
+            class_letter: u8,
+            numerator: *mut u64,
+            denominator: *mut u64,
+        ) -> u32;
         pub fn kifsang_verdict(
             record: *const u64,
             record_words: u64,
             order: u32,
+            class_letter: u8,
             units_per_ampere: u32,
             verdict: *mut u32,
         ) -> u32;
@@ -429,24 +443,32 @@ pub fn observe(
     answered(refusal, ())
 }
 
-/// Looks up the limit of an order, 2..40: the milliamperes r.m.s. up to which class A lets its average go.
-/// Its peak may go up to [`PEAK_PERCENT`] per cent of that.
+/// Looks up the limit of an order, 2..40, in a class, [`CLASS_A`] or [`CLASS_B`]: the milliamperes r.m.s.
+/// up to which the class lets its average go. Its peak may go up to [`PEAK_PERCENT`] per cent of that.
 ///
-/// Refusals: 6 order outside 2..40.
+/// Refusals: 6 order outside 2..40; 15 class letter not A or B.
 ///
 /// Proved error: none, the fraction is exact.
 ///
 /// ```
 /// // 2250/39 mA, in lowest terms.
-/// let limit = kifsang::limit(39)?;
+/// let limit = kifsang::limit(39, b'A')?;
 /// assert_eq!((limit.numerator, limit.denominator), (750, 13));
 /// assert_eq!(format!("{:.3} mA", limit.milliamperes()), "57.692 mA");
+///
+/// // 150 % of it.
+/// let limit = kifsang::limit(39, b'B')?;
+/// assert_eq!((limit.numerator, limit.denominator), (1125, 13));
+/// assert_eq!(format!("{:.3} mA", limit.milliamperes()), "86.538 mA");
+///
+/// assert_eq!(kifsang::limit(39, b'b'), Err(kifsang::Refusal::UNKNOWN_CLASS));
 /// # Ok::<(), kifsang::Refusal>(())
 /// ```
-pub fn limit(order: u32) -> Result<Limit, Refusal> {
+pub fn limit(order: u32, class_letter: u8) -> Result<Limit, Refusal> {
     let (mut numerator, mut denominator) = (0, 0);
     // SAFETY: each pointer points to one number.
-    let refusal = unsafe { raw::kifsang_limit(order, &mut numerator, &mut denominator) };
+    let refusal =
+        unsafe { raw::kifsang_limit(order, class_letter, &mut numerator, &mut denominator) };
     let limit = Limit {
         numerator,
         denominator,
@@ -454,15 +476,21 @@ pub fn limit(order: u32) -> Result<Limit, Refusal> {
     answered(refusal, limit)
 }
 
-/// Judges an order, 2..40, against its class A limit: the average of its smoothed values against the
-/// limit, their peak against 150 % of it, with so many units in an ampere r.m.s., 1..2^28.
+/// Judges an order, 2..40, against its limit in a class, [`CLASS_A`] or [`CLASS_B`]: the average of its
+/// smoothed values against the limit, their peak against 150 % of it, with so many units in an ampere
+/// r.m.s., 1..2^28.
 ///
-/// Refusals: 102 not 122 words; 7 the record is not sound; 10 no window yet; 6 order outside 2..40; 11
-/// units per ampere outside 1..2^28.
+/// Refusals: 102 not 122 words; 7 the record is not sound; 10 no window yet; 6 order outside 2..40; 15
+/// class letter not A or B; 11 units per ampere outside 1..2^28.
 ///
 /// Proved error: after a list of calls as of [`add_row`], within and over hold for the exact average
 /// and peak too; close is given only where a value is at most 12 units from its limit.
-pub fn verdict(record: &[u64], order: u32, units_per_ampere: u32) -> Result<Verdict, Refusal> {
+pub fn verdict(
+    record: &[u64],
+    order: u32,
+    class_letter: u8,
+    units_per_ampere: u32,
+) -> Result<Verdict, Refusal> {
     let mut number = 0;
     // SAFETY: the pointer comes with the length of its slice, the other points to one number.
     let refusal = unsafe {
@@ -470,6 +498,7 @@ pub fn verdict(record: &[u64], order: u32, units_per_ampere: u32) -> Result<Verd
             record.as_ptr(),
             length(record),
             order,
+            class_letter,
             units_per_ampere,
             &mut number,
         )
