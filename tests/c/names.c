@@ -1,7 +1,7 @@
 /* Every name of include/kifsang.h that stands for a number, with its figure; and the kinds, the places,
- * the margin and the peak's per cent by name, on calls whose answers document 01 has in figures. With an
- * argument it prints the names instead, a line for each, so that they can be compared with those of the
- * header. */
+ * the classes, the margin and the peak's per cent by name, on calls whose answers documents 01 and 02 have
+ * in figures. With an argument it prints the names instead, a line for each, so that they can be compared
+ * with those of the header. */
 #include "kifsang.h"
 
 #include <inttypes.h>
@@ -51,6 +51,7 @@ static const struct {
     NAME(KIFSANG_NO_FUNDAMENTAL, 12),
     NAME(KIFSANG_NOT_A_COLUMN, 13),
     NAME(KIFSANG_WRONG_BUFFER_LENGTH, 14),
+    NAME(KIFSANG_UNKNOWN_CLASS, 15),
     NAME(KIFSANG_UNKNOWN_KIND, 101),
     NAME(KIFSANG_WRONG_WORD_COUNT, 102),
 
@@ -59,6 +60,9 @@ static const struct {
     NAME(KIFSANG_HARMONIC_SUBGROUP, 2),
     NAME(KIFSANG_INTERHARMONIC_GROUP, 3),
     NAME(KIFSANG_INTERHARMONIC_CENTRED_SUBGROUP, 4),
+
+    NAME(KIFSANG_CLASS_A, 65),
+    NAME(KIFSANG_CLASS_B, 66),
 
     NAME(KIFSANG_WITHIN, 1),
     NAME(KIFSANG_CLOSE, 2),
@@ -116,7 +120,7 @@ static void try_places(void)
 }
 
 /* The verdict on order 3 with 1,000,000 units per ampere, of a record whose sum and peak are the value. */
-static uint32_t verdict_of(uint64_t windows, uint64_t value)
+static uint32_t verdict_of(uint8_t class_letter, uint64_t windows, uint64_t value)
 {
     uint64_t record[122];
     uint32_t verdict = 0;
@@ -124,29 +128,46 @@ static uint32_t verdict_of(uint64_t windows, uint64_t value)
     record[KIFSANG_WINDOWS_PLACE] = windows;
     record[KIFSANG_SUM_PLACE + 2] = value;
     record[KIFSANG_PEAK_PLACE + 2] = value;
-    same("the refusal of a verdict", kifsang_verdict(record, 122, 3, 1000000, &verdict), 0);
+    same("the refusal of a verdict", kifsang_verdict(record, 122, 3, class_letter, 1000000, &verdict), 0);
     return verdict;
 }
 
-/* Where the verdict changes about the limit of 2300 mA. The average of one window is the value, and
- * decides; that of two is half the value, and the peak decides. */
+/* Where the verdict changes about the limit of 2300 mA, in class B 3450 mA. The average of one window is
+ * the value, and decides; that of two is half the value, and the peak decides. */
 static void try_bounds(void)
 {
     static const struct {
         const char *what;
+        uint8_t class_letter;
         uint64_t windows, limit;
     } tests[] = {
-        {"the verdict by the average", 1, 2300000},
-        {"the verdict by the peak", 2, 23000 * KIFSANG_PEAK_PERCENT},
+        {"the verdict by the average", KIFSANG_CLASS_A, 1, 2300000},
+        {"the verdict by the peak", KIFSANG_CLASS_A, 2, 23000 * KIFSANG_PEAK_PERCENT},
+        {"the verdict by the average, class B", KIFSANG_CLASS_B, 1, 3450000},
+        {"the verdict by the peak, class B", KIFSANG_CLASS_B, 2, 34500 * KIFSANG_PEAK_PERCENT},
     };
     for (size_t i = 0; i < COUNT_OF(tests); i++) {
+        uint8_t letter = tests[i].class_letter;
+        uint64_t windows = tests[i].windows;
         uint64_t last_within = tests[i].limit - KIFSANG_SMOOTHED_MARGIN;
         uint64_t last_close = tests[i].limit + KIFSANG_SMOOTHED_MARGIN;
-        same(tests[i].what, verdict_of(tests[i].windows, last_within), KIFSANG_WITHIN);
-        same(tests[i].what, verdict_of(tests[i].windows, last_within + 1), KIFSANG_CLOSE);
-        same(tests[i].what, verdict_of(tests[i].windows, last_close), KIFSANG_CLOSE);
-        same(tests[i].what, verdict_of(tests[i].windows, last_close + 1), KIFSANG_OVER);
+        same(tests[i].what, verdict_of(letter, windows, last_within), KIFSANG_WITHIN);
+        same(tests[i].what, verdict_of(letter, windows, last_within + 1), KIFSANG_CLOSE);
+        same(tests[i].what, verdict_of(letter, windows, last_close), KIFSANG_CLOSE);
+        same(tests[i].what, verdict_of(letter, windows, last_close + 1), KIFSANG_OVER);
     }
+}
+
+/* The limits of order 39 by the names of the classes: 2250/39 mA, and half as much again. */
+static void try_limits(void)
+{
+    uint64_t numerator = 0, denominator = 0;
+    same("the refusal of a limit", kifsang_limit(39, KIFSANG_CLASS_A, &numerator, &denominator), 0);
+    same("the numerator of a limit", numerator, 750);
+    same("the denominator of a limit", denominator, 13);
+    same("the refusal of a limit", kifsang_limit(39, KIFSANG_CLASS_B, &numerator, &denominator), 0);
+    same("the numerator of a limit, class B", numerator, 1125);
+    same("the denominator of a limit, class B", denominator, 13);
 }
 
 int main(int argument_count, char **arguments)
@@ -162,6 +183,7 @@ int main(int argument_count, char **arguments)
     try_kinds();
     try_places();
     try_bounds();
+    try_limits();
     printf("%lu names of the header, all with their figures\n", (unsigned long)COUNT_OF(names));
     return 0;
 }

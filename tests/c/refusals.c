@@ -18,6 +18,7 @@
 
 struct arguments {
     uint32_t kind, system, order, units_per_ampere;
+    uint8_t class_letter;
     uint64_t recording_length, start, windows, first, line_count, value_count, record_words, text_length;
     uint64_t group_count, subgroup_count, smoothed_count, buffer_length;
     int64_t number;
@@ -77,7 +78,14 @@ struct fault {
     FAULT(6, uint32_t, order, 0), \
     FAULT(6, uint32_t, order, 1), \
     FAULT(6, uint32_t, order, 41), \
-    FAULT(6, uint32_t, order, UINT32_MAX)
+    FAULT(6, uint32_t, order, UINT32_MAX), \
+    FAULT(15, uint8_t, class_letter, 0), \
+    FAULT(15, uint8_t, class_letter, 64), \
+    FAULT(15, uint8_t, class_letter, 67), \
+    FAULT(15, uint8_t, class_letter, 68), \
+    FAULT(15, uint8_t, class_letter, 97), \
+    FAULT(15, uint8_t, class_letter, 98), \
+    FAULT(15, uint8_t, class_letter, UINT8_MAX)
 
 struct call {
     const char *name;
@@ -207,7 +215,7 @@ static const struct fault observe_faults[] = {
 
 static uint32_t limit(struct arguments *a)
 {
-    return kifsang_limit(a->order, &a->numerator, &a->denominator);
+    return kifsang_limit(a->order, a->class_letter, &a->numerator, &a->denominator);
 }
 
 static const struct fault limit_faults[] = {
@@ -216,7 +224,8 @@ static const struct fault limit_faults[] = {
 
 static uint32_t verdict(struct arguments *a)
 {
-    return kifsang_verdict(a->record, a->record_words, a->order, a->units_per_ampere, &a->verdict);
+    return kifsang_verdict(a->record, a->record_words, a->order, a->class_letter, a->units_per_ampere,
+                           &a->verdict);
 }
 
 static const struct fault verdict_faults[] = {
@@ -319,6 +328,7 @@ static void fill(struct arguments *a, const struct call *call)
     a->kind = 2;
     a->system = 10;
     a->order = 3;
+    a->class_letter = 65;
     a->units_per_ampere = 268435456;
     a->windows = 3;
     a->recording_length = call->run == observe ? 6144 : 2048;
@@ -371,17 +381,41 @@ static void try_call(const struct call *call, uint32_t verdict_before)
             refuse(call, verdict_before, &call->faults[first], &call->faults[second]);
 }
 
-/* The verdict of document 01's worked number 9: one window, order 3, 1,000,000 units per ampere. */
-static uint32_t verdict_of(uint32_t value)
+/* A verdict as of document 01's worked number 9, in a class: one window, order 3, 1,000,000 units per
+ * ampere. */
+static uint32_t verdict_of(uint8_t class_letter, uint32_t value)
 {
     uint64_t record[122];
     uint32_t values[40] = {0}, verdict = 0;
     values[2] = value;
     same("verdict", "a record", "of one window",
          kifsang_fresh_record(10, record, 122) + kifsang_add_row(record, 122, 10, values, 40) +
-             kifsang_verdict(record, 122, 3, 1000000, &verdict),
+             kifsang_verdict(record, 122, 3, class_letter, 1000000, &verdict),
          0);
     return verdict;
+}
+
+/* The verdicts about the limit of a class. */
+static void try_class(uint8_t class_letter, uint32_t limit)
+{
+    same("verdict", "limit - 12", "within", verdict_of(class_letter, limit - 12), 1);
+    same("verdict", "limit - 11", "close", verdict_of(class_letter, limit - 11), 2);
+    same("verdict", "limit + 12", "close", verdict_of(class_letter, limit + 12), 2);
+    same("verdict", "limit + 13", "over", verdict_of(class_letter, limit + 13), 3);
+}
+
+/* Every byte as a class letter: two are taken, the others leave all as it was. */
+static void try_letters(const struct call *call)
+{
+    static struct arguments before, after;
+    fill(&before, call);
+    for (unsigned letter = 0; letter <= UINT8_MAX; letter++) {
+        int taken = letter == 65 || letter == 66;
+        before.class_letter = (uint8_t)letter;
+        memcpy(&after, &before, sizeof after);
+        same(call->name, "a class letter", "A or B alone", call->run(&after), taken ? 0 : 15);
+        same(call->name, "a class letter", "answered", memcmp(&before, &after, sizeof before) != 0, taken);
+    }
 }
 
 /* No line and no window are taken too: nothing is written, and a fresh record. */
@@ -430,11 +464,12 @@ int main(int argument_count, char **arguments)
     for (size_t i = 0; i < COUNT_OF(calls); i++)
         if (calls[i].run == verdict)
             try_call(&calls[i], 0);
+    for (size_t i = 0; i < COUNT_OF(calls); i++)
+        if (calls[i].run == limit || calls[i].run == verdict)
+            try_letters(&calls[i]);
     try_none();
-    same("verdict", "2299988", "within", verdict_of(2299988), 1);
-    same("verdict", "2299989", "close", verdict_of(2299989), 2);
-    same("verdict", "2300012", "close", verdict_of(2300012), 2);
-    same("verdict", "2300013", "over", verdict_of(2300013), 3);
+    try_class(65, 2300000);
+    try_class(66, 3450000);
     printf("%lu comparisons of refusals in C, all alike\n", tried);
     return 0;
 }

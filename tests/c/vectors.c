@@ -200,20 +200,21 @@ static void on_record(void)
 static void on_limit(void)
 {
     uint64_t numerator = BEFORE, denominator = BEFORE;
-    uint32_t refusal = kifsang_limit((uint32_t)number[0], &numerator, &denominator);
-    same("limit", refusal, number[1]);
-    same_answer("numerator of a limit", numerator, refusal, number[2]);
-    same_answer("denominator of a limit", denominator, refusal, number[3]);
+    uint32_t refusal = kifsang_limit((uint32_t)number[0], (uint8_t)number[1], &numerator, &denominator);
+    same("limit", refusal, number[2]);
+    same_answer("numerator of a limit", numerator, refusal, number[3]);
+    same_answer("denominator of a limit", denominator, refusal, number[4]);
 }
 
 static void on_verdict(void)
 {
     uint32_t verdict = BEFORE;
-    if (number[0] > UINT32_MAX || number[1] > UINT32_MAX)
+    if (number[0] > UINT32_MAX || number[2] > UINT32_MAX)
         return;
-    uint32_t refusal = kifsang_verdict(record, KIFSANG_RECORD_WORDS, (uint32_t)number[0], (uint32_t)number[1], &verdict);
-    same("verdict", refusal, number[2]);
-    same_answer("outcome", verdict, refusal, number[3]);
+    uint32_t refusal = kifsang_verdict(record, KIFSANG_RECORD_WORDS, (uint32_t)number[0], (uint8_t)number[1],
+                                       (uint32_t)number[2], &verdict);
+    same("verdict", refusal, number[3]);
+    same_answer("outcome", verdict, refusal, number[4]);
     same_words("the record after a verdict", record, expected_record, KIFSANG_RECORD_WORDS);
 }
 

@@ -1,7 +1,7 @@
-//! The recordings of `examples/recordings`, judged by the core as the script beside them says.
+//! The recordings of `examples/recordings`, judged by the core as the script beside them says, in class A.
 
 use crate::Tally;
-use kifsang::{Kind, Verdict, ORDER_COUNT, RECORD_WORDS, WINDOW_LENGTH};
+use kifsang::{Kind, Verdict, CLASS_A, ORDER_COUNT, RECORD_WORDS, WINDOW_LENGTH};
 
 /// 4,000 counts per ampere, 4,096 units in a count.
 const UNITS_PER_AMPERE: u32 = 4_000 * 4_096;
@@ -28,8 +28,9 @@ fn over_and_close(name: &str) -> (Vec<u32>, Vec<u32>) {
     )
     .expect("a record");
     let judged = |verdict| {
+        let given = |order| kifsang::verdict(&record, order, CLASS_A, UNITS_PER_AMPERE);
         (2..=ORDER_COUNT as u32)
-            .filter(|&order| kifsang::verdict(&record, order, UNITS_PER_AMPERE) == Ok(verdict))
+            .filter(|&order| given(order) == Ok(verdict))
             .collect()
     };
     (judged(Verdict::Over), judged(Verdict::Close))

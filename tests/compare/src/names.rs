@@ -48,6 +48,8 @@ pub fn compare() {
         LISTING_ROOM 1640
         SMOOTHED_MARGIN 12
         PEAK_PERCENT 150
+        CLASS_A 65
+        CLASS_B 66
         SYSTEM_PLACE 0
         WINDOWS_PLACE 1
         SMOOTHED_PLACE 2
@@ -70,6 +72,7 @@ pub fn compare() {
         NO_FUNDAMENTAL 12
         NOT_A_COLUMN 13
         WRONG_BUFFER_LENGTH 14
+        UNKNOWN_CLASS 15
         UNKNOWN_KIND 101
         WRONG_WORD_COUNT 102
     };

@@ -1,11 +1,15 @@
 //! Observation records and verdicts, sound and not.
 
 use crate::{numbers, Tally};
-use kifsang::{ORDER_COUNT, RECORD_WORDS};
+use kifsang::{CLASS_A, CLASS_B, ORDER_COUNT, RECORD_WORDS};
+use reference::limits::order_limit;
 use reference::observation::{add_row, fresh_record, Observation};
 use reference::random::Random;
 use reference::rows::Row;
 use reference::verdict::{order_verdict, Question, Verdict};
+
+/// Both classes, and letters of none.
+const CLASS_LETTERS: [u8; 5] = [CLASS_A, CLASS_B, 0, b'C', b'b'];
 
 /// The words of a record, in the interface's order.
 pub fn words(record: &Observation) -> Vec<u64> {
@@ -30,25 +34,71 @@ fn compare_add_row(tally: &mut Tally, record: &Observation, row: &Row) -> Observ
     next
 }
 
+fn compare_verdict(
+    tally: &mut Tally,
+    record: &Observation,
+    order: u32,
+    class_letter: u8,
+    scale: u32,
+) {
+    let core = kifsang::verdict(&words(record), order, class_letter, scale);
+    let question = Question {
+        order: order.into(),
+        class_letter,
+        scale: scale.into(),
+    };
+    let expected = order_verdict(record, question);
+    let (number, refusal) = numbers(&core, &expected);
+    let what = format!("verdict to {question:?}");
+    tally.same(&what, number, refusal);
+    let expected = expected.ok().map(|verdict| match verdict {
+        Verdict::Within(_) => kifsang::Verdict::Within,
+        Verdict::Close(_) => kifsang::Verdict::Close,
+        Verdict::Over(_) => kifsang::Verdict::Over,
+    });
+    tally.same(&what, core.ok(), expected);
+}
+
 fn compare_verdicts(tally: &mut Tally, record: &Observation, scales: &[u32]) {
-    let words = words(record);
     for order in (0..=42).chain([u32::MAX]) {
-        for &scale in scales {
-            let core = kifsang::verdict(&words, order, scale);
-            let question = Question {
-                order: order.into(),
-                scale: scale.into(),
-            };
-            let expected = order_verdict(record, question);
-            let (number, refusal) = numbers(&core, &expected);
-            let what = format!("verdict of order {order} at {scale} units per ampere");
-            tally.same(&what, number, refusal);
-            let expected = expected.ok().map(|verdict| match verdict {
-                Verdict::Within(_) => kifsang::Verdict::Within,
-                Verdict::Close(_) => kifsang::Verdict::Close,
-                Verdict::Over(_) => kifsang::Verdict::Over,
-            });
-            tally.same(&what, core.ok(), expected);
+        for class_letter in CLASS_LETTERS {
+            for &scale in scales {
+                compare_verdict(tally, record, order, class_letter, scale);
+            }
+        }
+    }
+}
+
+/// Every byte as the class letter, where the order, the scale or both are refused too.
+fn compare_letters(tally: &mut Tally, record: &Observation) {
+    for class_letter in 0..=u8::MAX {
+        for (order, scale) in [(3, 1_000_000), (1, 1_000_000), (40, 0), (41, 0)] {
+            compare_verdict(tally, record, order, class_letter, scale);
+        }
+    }
+}
+
+/// Averages and peaks some units from the limit of each order, or from 150 % of it, in both classes.
+fn compare_about_limits(tally: &mut Tally, random: &mut Random) {
+    for class_letter in [CLASS_A, CLASS_B] {
+        for order in 2..=ORDER_COUNT as u32 {
+            let limit = order_limit(order.into(), class_letter).expect("an order with a limit");
+            for scale in [1, 1000, 999_983, 1_000_000, 268_435_456] {
+                for percent in [100, 150] {
+                    let units = limit.numerator * u64::from(scale) * percent
+                        / (limit.denominator * 1000 * 100);
+                    for _ in 0..20 {
+                        let near = (units + random.below(40)).saturating_sub(20);
+                        let (mut record, _) = fresh_record(10);
+                        record.windows = 1 + random.below(45_000);
+                        let place = order as usize - 1;
+                        record.sum[place] = record.windows * near + random.below(record.windows);
+                        record.peak[place] = near;
+                        compare_verdict(tally, &record, order, CLASS_A, scale);
+                        compare_verdict(tally, &record, order, CLASS_B, scale);
+                    }
+                }
+            }
         }
     }
 }
@@ -117,8 +167,11 @@ pub fn compare(tally: &mut Tally, seed: u64) {
                 compare_verdicts(tally, &wrong, &[1_000_000]);
             }
             compare_verdicts(tally, &record, &scales);
+            compare_letters(tally, &record);
         }
     }
+    compare_letters(tally, &fresh_record(10).0);
+    compare_about_limits(tally, &mut random);
 
     // The worked verdicts, and every order with values about its own limits.
     let (fresh, _) = fresh_record(10);
@@ -137,7 +190,9 @@ pub fn compare(tally: &mut Tally, seed: u64) {
             }
         }
     }
-    for value in [2_299_988, 2_299_989, 2_300_012, 2_300_013] {
+    for value in [
+        2_299_988, 2_299_989, 2_300_012, 2_300_013, 3_449_988, 3_449_989, 3_450_012, 3_450_013,
+    ] {
         let mut row = Row {
             system: 10,
             values: [0; ORDER_COUNT],
@@ -170,7 +225,7 @@ pub fn compare(tally: &mut Tally, seed: u64) {
     );
     tally.same(
         "a short record",
-        kifsang::verdict(&short, 3, 1),
+        kifsang::verdict(&short, 3, CLASS_A, 1),
         Err(kifsang::Refusal(102)),
     );
     tally.same(
