@@ -23,7 +23,8 @@ static uint64_t sound_record[KIFSANG_RECORD_WORDS];
 static uint64_t observed[KIFSANG_RECORD_WORDS], one_by_one[KIFSANG_RECORD_WORDS], c_observed[KIFSANG_RECORD_WORDS];
 static uint32_t core_row[ORDERS], c_row[ORDERS];
 static unsigned char core_text[KIFSANG_LISTING_ROOM], c_text[KIFSANG_LISTING_ROOM];
-static uint16_t c_limits[39][2];
+static uint16_t c_limits[2][39][2]; /* class A's and class B's */
+static volatile uint8_t letter = 'A'; /* of the class in which limits and verdicts are asked */
 static volatile uint64_t result;
 
 /* ---- plain C */
@@ -101,34 +102,42 @@ static void c_observe(void)
     }
 }
 
-/* The table of the limits, worked out before anything is timed, and its lookup. */
+/* The tables of the limits, worked out before anything is timed, and their lookup. */
+static void c_fill_limit(uint16_t limit[2], uint16_t a, uint16_t b)
+{
+    uint16_t divisor = b;
+    while (a % divisor != 0 || b % divisor != 0)
+        divisor--;
+    limit[0] = a / divisor;
+    limit[1] = b / divisor;
+}
+
 static void c_fill_limits(void)
 {
     static const uint16_t own[14] = {[2] = 1080, 2300, 430, 1140, 300, 770, [9] = 400, [11] = 330, [13] = 210};
     for (uint16_t h = 2; h <= ORDERS; h++) {
         uint16_t a = h < 14 && own[h] != 0 ? own[h] : h % 2 == 0 ? 1840 : 2250, b = h < 14 && own[h] != 0 ? 1 : h;
-        uint16_t divisor = b;
-        while (a % divisor != 0 || b % divisor != 0)
-            divisor--;
-        c_limits[h - 2][0] = a / divisor;
-        c_limits[h - 2][1] = b / divisor;
+        c_fill_limit(c_limits[0][h - 2], a, b);
+        c_fill_limit(c_limits[1][h - 2], 3 * a, 2 * b);
     }
 }
 
-static uint32_t c_limit(uint32_t order, uint64_t *numerator, uint64_t *denominator)
+static uint32_t c_limit(uint32_t order, uint8_t letter, uint64_t *numerator, uint64_t *denominator)
 {
     if (order < 2 || order > ORDERS)
         return 6;
-    *numerator = c_limits[order - 2][0];
-    *denominator = c_limits[order - 2][1];
+    if (letter != 'A' && letter != 'B')
+        return 15;
+    *numerator = c_limits[letter - 'A'][order - 2][0];
+    *denominator = c_limits[letter - 'A'][order - 2][1];
     return 0;
 }
 
-static uint32_t c_verdict(const uint64_t *record)
+static uint32_t c_verdict(const uint64_t *record, uint8_t letter)
 {
-    if (!c_sound(record) || record[1] == 0)
+    if (!c_sound(record) || record[1] == 0 || (letter != 'A' && letter != 'B'))
         return 9;
-    uint64_t figure = 2300 * (uint64_t)1000000, n = record[1], sum = record[44], peak = record[84];
+    uint64_t figure = (letter == 'A' ? 2300 : 3450) * (uint64_t)1000000, n = record[1], sum = record[44], peak = record[84];
     int over = (figure + 12 * 1000) * n < sum * 1000 || (3 * figure + 12 * 2000) < peak * 2000;
     int within = (sum + 12 * n) * 1000 <= figure * n && (peak + 12) * 2000 <= 3 * figure;
     return over ? 3 : within ? 1 : 2;
@@ -159,10 +168,10 @@ static void core_distortion(void) { uint64_t t = 0; kifsang_distortion(core_row,
 static void plain_distortion(void) { result = c_distortion(); }
 static void core_add(void) { kifsang_add_row(core_record, KIFSANG_RECORD_WORDS, SYSTEM, core_row, ORDERS); }
 static void plain_add(void) { c_add_row(c_record, c_row); }
-static void core_limit(void) { uint64_t n = 0, d = 0; kifsang_limit(39, &n, &d); result = n * 100 + d; }
-static void plain_limit(void) { uint64_t n = 0, d = 0; c_limit(39, &n, &d); result = n * 100 + d; }
-static void core_verdict(void) { uint32_t v = 9; kifsang_verdict(sound_record, KIFSANG_RECORD_WORDS, 3, 1000000, &v); result = v; }
-static void plain_verdict(void) { result = c_verdict(sound_record); }
+static void core_limit(void) { uint64_t n = 0, d = 0; kifsang_limit(39, letter, &n, &d); result = n * 100 + d; }
+static void plain_limit(void) { uint64_t n = 0, d = 0; c_limit(39, letter, &n, &d); result = n * 100 + d; }
+static void core_verdict(void) { uint32_t v = 9; kifsang_verdict(sound_record, KIFSANG_RECORD_WORDS, 3, letter, 1000000, &v); result = v; }
+static void plain_verdict(void) { result = c_verdict(sound_record, letter); }
 static void core_listing(void)
 {
     uint64_t written;
@@ -255,17 +264,19 @@ int main(void)
     same("add_row", core_record, c_record, sizeof c_record);
     memcpy(sound_record, core_record, sizeof core_record);
     c_fill_limits();
-    for (uint32_t order = 0; order <= ORDERS + 1; order++) {
-        uint64_t core[3] = {0}, plain[3] = {0};
-        core[0] = kifsang_limit(order, &core[1], &core[2]);
-        plain[0] = c_limit(order, &plain[1], &plain[2]);
-        same("limit", core, plain, sizeof core);
+    for (letter = 'A'; letter <= 'C'; letter++) {
+        for (uint32_t order = 0; order <= ORDERS + 1; order++) {
+            uint64_t core[3] = {0}, plain[3] = {0};
+            core[0] = kifsang_limit(order, letter, &core[1], &core[2]);
+            plain[0] = c_limit(order, letter, &plain[1], &plain[2]);
+            same("limit", core, plain, sizeof core);
+        }
+        core_verdict();
+        from_core = result;
+        plain_verdict();
+        from_c = result;
+        same("verdict", &from_core, &from_c, sizeof from_c);
     }
-    core_verdict();
-    from_core = result;
-    plain_verdict();
-    from_c = result;
-    same("verdict", &from_core, &from_c, sizeof from_c);
     core_listing();
     c_listing();
     same("fill_listing", core_text, c_text, sizeof c_text);
@@ -275,19 +286,23 @@ int main(void)
         const char *name;
         void (*core)(void), (*plain)(void);
         int calls; /* in a batch */
+        uint8_t letter;
     } calls[] = {
-        {"lines_from, one line", core_line, plain_line, 400},
-        {"lines_from, 13 lines", core_lines, plain_lines, 100},
-        {"row", core_rows, plain_rows, 400},
-        {"distortion", core_distortion, plain_distortion, 400},
-        {"add_row", core_add, plain_add, 400},
-        {"limit", core_limit, plain_limit, 400},
-        {"verdict", core_verdict, plain_verdict, 400},
-        {"fill_listing", core_listing, c_listing, 400},
-        {"observe, 50 windows", core_observe, c_observe, 1},
-        {"one by one, 50 windows", core_one_by_one, c_observe, 1},
+        {"lines_from, one line", core_line, plain_line, 400, 0},
+        {"lines_from, 13 lines", core_lines, plain_lines, 100, 0},
+        {"row", core_rows, plain_rows, 400, 0},
+        {"distortion", core_distortion, plain_distortion, 400, 0},
+        {"add_row", core_add, plain_add, 400, 0},
+        {"limit, class A", core_limit, plain_limit, 400, 'A'},
+        {"limit, class B", core_limit, plain_limit, 400, 'B'},
+        {"verdict, class A", core_verdict, plain_verdict, 400, 'A'},
+        {"verdict, class B", core_verdict, plain_verdict, 400, 'B'},
+        {"fill_listing", core_listing, c_listing, 400, 0},
+        {"observe, 50 windows", core_observe, c_observe, 1, 0},
+        {"one by one, 50 windows", core_one_by_one, c_observe, 1, 0},
     };
     for (size_t i = 0; i < sizeof calls / sizeof calls[0]; i++) {
+        letter = calls[i].letter;
         double core = least_time(calls[i].core, calls[i].calls), plain = least_time(calls[i].plain, calls[i].calls);
         printf("%-22s core %9.3f us, C %9.3f us, ratio %5.2f\n", calls[i].name, 1e6 * core, 1e6 * plain,
                core / plain);

@@ -27,8 +27,8 @@ static void observe(void)
 {
     kifsang_observe(window, KIFSANG_WINDOW_LENGTH, 0, 1, 10, 1, record, KIFSANG_RECORD_WORDS);
 }
-static void limit(void) { kifsang_limit(39, &number, &other_number); }
-static void judge(void) { kifsang_verdict(record, KIFSANG_RECORD_WORDS, 3, 1000000, &verdict); }
+static void limit(void) { kifsang_limit(39, KIFSANG_CLASS_B, &number, &other_number); }
+static void judge(void) { kifsang_verdict(record, KIFSANG_RECORD_WORDS, 3, KIFSANG_CLASS_B, 1000000, &verdict); }
 static void read_column(void) { kifsang_read_column(text, KIFSANG_COLUMN_WIDTH, &signed_number); }
 static void write_column(void) { kifsang_write_column(text, KIFSANG_COLUMN_WIDTH, -7); }
 static void fill_listing(void)

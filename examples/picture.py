@@ -4,7 +4,7 @@ margin, in the colour of the verdict, and the peak as a ring; beside the bar the
 figure. Limits, margin and verdicts are those of the report. Writes SVG; refuses what is no report, with
 status 1, and every argument, with status 2.
 
-    report UNITS_PER_AMPERE < recording | picture.py > picture.svg
+    report CLASS_LETTER UNITS_PER_AMPERE < recording | picture.py > picture.svg
 """
 
 import math
@@ -13,7 +13,7 @@ import sys
 from typing import NamedTuple, Optional
 
 ORDERS = 40
-HEAD = ["system", "windows", "units per ampere", "margin, units"]
+HEAD = ["system", "windows", "units per ampere", "margin, units"]  # after the class
 COLUMNS = "order  average, units  peak, units  limit, mA  as decimal  peak limit, mA  verdict"
 WHOLE, DECIMAL = " +([0-9]{1,20})", r" +([0-9]{1,20}\.[0-9]{1,20})"
 LIMIT = " +([1-9][0-9]{0,19}(?:/[1-9][0-9]{0,19})?)"
@@ -48,10 +48,13 @@ class Order(NamedTuple):
 
 
 def read_report(text):
-    """The four numbers of the report's head, and its orders; ValueError for any other text."""
-    lines = text.split("\n")
+    """The class of the report's head, its four numbers, and its orders; ValueError for any other text."""
+    first, *lines = text.split("\n")
     if len(lines) != len(HEAD) + 2 + ORDERS + 1 or lines[-1] != "":
         raise ValueError("no report")
+    class_letter = re.fullmatch("class +([AB])", first)
+    if class_letter is None:
+        raise ValueError("no report: class is missing")
     head = []
     for name, line in zip(HEAD, lines):
         found = re.fullmatch(re.escape(name) + WHOLE, line)
@@ -67,10 +70,10 @@ def read_report(text):
             raise ValueError(f"no report: the line of order {number}")
         limit, peak_limit = (None, None) if number == 1 else (limit_of(found[4]), float(found[6]))
         orders.append(Order(float(found[2]), int(found[3]), limit, peak_limit, found[7]))
-    return head, orders
+    return class_letter[1], head, orders
 
 
-def picture(head, orders):
+def picture(class_letter, head, orders):
     """The picture's lines."""
     system, windows, units_per_ampere, margin = head
     highest = max(max(order.peak / units_per_ampere, (order.peak_limit or 0) / 1000) for order in orders)
@@ -108,7 +111,7 @@ def picture(head, orders):
     out = [
         f'<svg xmlns="http://www.w3.org/2000/svg" width="{WIDTH}" height="{HEIGHT}" font-family="sans-serif" font-size="12">',
         f'<rect width="{WIDTH}" height="{HEIGHT}" fill="white"/>',
-        words(LEFT, 24, "Smoothed harmonic groups against class A; limits and verdicts are the core's", ' font-size="15"'),
+        words(LEFT, 24, f"Smoothed harmonic groups against class {class_letter}; limits and verdicts are the core's", ' font-size="15"'),
         words(LEFT, 44, f"System {system}; windows: {windows}; units per ampere: {units_per_ampere}"),
     ]
     for power in range(round(least), most + 1):

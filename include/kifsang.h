@@ -154,7 +154,8 @@ enum kifsang_kind {
     KIFSANG_INTERHARMONIC_CENTRED_SUBGROUP = 4
 };
 
-/* Whose limits hold: the class of the equipment, by its letter, a byte of ASCII. Small letters are none. */
+/* The letters of the classes of equipment, bytes of ASCII. Every other byte is refused, small letters too;
+ * a number above 255 is cut to a byte by the compiler, before the call. */
 enum kifsang_class {
     KIFSANG_CLASS_A = 'A',
     KIFSANG_CLASS_B = 'B' /* portable tools */

@@ -1,6 +1,6 @@
-/* A test report of a recording against class A:
+/* A test report of a recording in a class:
  *
- *     report UNITS_PER_AMPERE < recording
+ *     report CLASS_LETTER UNITS_PER_AMPERE < recording
  *
  * The recording has the input form of harmlist: a line with the system, then a line for each sample,
  * windows back to back; a line is a number column of 8 bytes and a newline. Verdicts and limits are
@@ -8,8 +8,9 @@
  * of its own.
  *
  * Where the recording has a fault, the output is only the line that harmlist writes for it, `refused`
- * and a number; units per ampere that the core refuses give such a line with 11. The exit status is
- * then 1. It is 2 where the program was called wrongly, or could not read or write. */
+ * and a number; a class letter that the core refuses gives such a line with 15, units per ampere with
+ * 11. The exit status is then 1. It is 2 where the program was called wrongly, or could not read or
+ * write. */
 #include "kifsang.h"
 #include "verdict_word.h"
 
@@ -84,15 +85,16 @@ static uint32_t read_recording(FILE *input, uint64_t record[KIFSANG_RECORD_WORDS
     return refusal;
 }
 
-static uint32_t judge(const uint64_t record[KIFSANG_RECORD_WORDS], uint32_t units_per_ampere,
-                      struct judgement judgements[KIFSANG_ORDER_COUNT])
+static uint32_t judge(const uint64_t record[KIFSANG_RECORD_WORDS], uint8_t class_letter,
+                      uint32_t units_per_ampere, struct judgement judgements[KIFSANG_ORDER_COUNT])
 {
     uint32_t refusal = KIFSANG_NO_REFUSAL;
     for (uint32_t order = FIRST_LIMITED; refusal == KIFSANG_NO_REFUSAL && order <= KIFSANG_ORDER_COUNT; order++) {
         struct judgement *judgement = &judgements[order - 1];
-        refusal = kifsang_verdict(record, KIFSANG_RECORD_WORDS, order, units_per_ampere, &judgement->verdict);
+        refusal = kifsang_verdict(record, KIFSANG_RECORD_WORDS, order, class_letter, units_per_ampere,
+                                  &judgement->verdict);
         if (refusal == KIFSANG_NO_REFUSAL)
-            refusal = kifsang_limit(order, &judgement->numerator, &judgement->denominator);
+            refusal = kifsang_limit(order, class_letter, &judgement->numerator, &judgement->denominator);
     }
     return refusal;
 }
@@ -110,10 +112,11 @@ static void print_limits(uint64_t numerator, uint64_t denominator)
     printf("  %9s  %10.4f  %14.4f", text, limit, peak_limit);
 }
 
-static void print_report(const uint64_t record[KIFSANG_RECORD_WORDS], uint32_t units_per_ampere,
-                         const struct judgement judgements[KIFSANG_ORDER_COUNT])
+static void print_report(const uint64_t record[KIFSANG_RECORD_WORDS], uint8_t class_letter,
+                         uint32_t units_per_ampere, const struct judgement judgements[KIFSANG_ORDER_COUNT])
 {
     uint64_t windows = record[KIFSANG_WINDOWS_PLACE];
+    printf("class             %9c\n", class_letter);
     printf("system            %9" PRIu64 "\n", record[KIFSANG_SYSTEM_PLACE]);
     printf("windows           %9" PRIu64 "\n", windows);
     printf("units per ampere  %9" PRIu32 "\n", units_per_ampere);
@@ -130,6 +133,12 @@ static void print_report(const uint64_t record[KIFSANG_RECORD_WORDS], uint32_t u
             printf("  %s\n", verdict_word(judgement->verdict));
         }
     }
+}
+
+/* The byte of a text of one byte. For any other text 0, which the core refuses. */
+static uint8_t letter_of(const char *text)
+{
+    return text[0] != '\0' && text[1] == '\0' ? (uint8_t)text[0] : 0;
 }
 
 /* The number of a text of digits. For any other text, and a number of more than 32 bits, 0, which the
@@ -152,16 +161,17 @@ int main(int count, char **arguments)
 {
     uint64_t record[KIFSANG_RECORD_WORDS] = {0};
     struct judgement judgements[KIFSANG_ORDER_COUNT] = {0};
-    if (count != 2)
-        return failed("usage: report UNITS_PER_AMPERE < recording");
-    uint32_t units_per_ampere = scale_of(arguments[1]);
+    if (count != 3)
+        return failed("usage: report CLASS_LETTER UNITS_PER_AMPERE < recording");
+    uint8_t class_letter = letter_of(arguments[1]);
+    uint32_t units_per_ampere = scale_of(arguments[2]);
     uint32_t refusal = read_recording(stdin, record);
     if (ferror(stdin))
         return failed("the recording cannot be read");
     if (refusal == KIFSANG_NO_REFUSAL)
-        refusal = judge(record, units_per_ampere, judgements);
+        refusal = judge(record, class_letter, units_per_ampere, judgements);
     if (refusal == KIFSANG_NO_REFUSAL)
-        print_report(record, units_per_ampere, judgements);
+        print_report(record, class_letter, units_per_ampere, judgements);
     else
         printf("refused%3" PRIu32 "\n", refusal);
     if (fflush(stdout) != 0 || ferror(stdout))

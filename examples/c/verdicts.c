@@ -1,5 +1,5 @@
 /* From samples to verdicts: a current of 50 Hz with a third and a fifth harmonic, 15 windows of
- * 0.2 s, judged against class A. A firmware engineer replaces `take_samples` by the converter; where
+ * 0.2 s, judged against class A and class B. A firmware engineer replaces `take_samples` by the converter; where
  * memory holds one window only, report.c shows the calls for a window at a time. */
 #include "kifsang.h"
 #include "verdict_word.h"
@@ -41,10 +41,13 @@ int main(void)
                                            KIFSANG_RECORD_WORDS)))
         return 1;
     for (uint32_t order = 2; order <= KIFSANG_ORDER_COUNT; order++) {
-        uint32_t verdict = 0;
-        if (refused("verdict", kifsang_verdict(record, KIFSANG_RECORD_WORDS, order, UNITS_PER_AMPERE, &verdict)))
+        uint32_t in_a = 0, in_b = 0;
+        if (refused("verdict", kifsang_verdict(record, KIFSANG_RECORD_WORDS, order, KIFSANG_CLASS_A,
+                                               UNITS_PER_AMPERE, &in_a)) ||
+            refused("verdict", kifsang_verdict(record, KIFSANG_RECORD_WORDS, order, KIFSANG_CLASS_B,
+                                               UNITS_PER_AMPERE, &in_b)))
             return 1;
-        printf("order %2u: %s\n", (unsigned)order, verdict_word(verdict));
+        printf("order %2u: class A %s, class B %s\n", (unsigned)order, verdict_word(in_a), verdict_word(in_b));
     }
     return 0;
 }

@@ -5,10 +5,12 @@ All are currents at 230 V, 50 Hz, taken with a sensor and a converter that give 
 ampere, so K is 4,000 x 4,096 = 16,384,000 units per ampere. Three windows of 0.2 s each.
 
     heater_passes.txt   a heater of 10 A with a little distortion of the mains: every order passes
-                        class A
+                        class A, and so class B
     supply_fails.txt    a rectifier with a large capacitor, which takes its current in short pulses
-                        of 25 A: several odd orders are over their class A limits
-    dimmer.txt          a lamp behind a phase-cut dimmer that conducts half of each half-wave
+                        of 25 A: several odd orders are over their class A limits, and fewer over
+                        those of class B
+    dimmer.txt          a lamp behind a phase-cut dimmer that conducts half of each half-wave: every
+                        order passes class A, and so class B
 """
 
 import math

@@ -11,7 +11,7 @@ import subprocess
 import sys
 import tempfile
 
-SCALE = "16384000"
+CLASS, SCALE = "A", "16384000"
 
 
 def column(number):
@@ -54,14 +54,24 @@ FAULTY = [
     (2, recording(10, *WINDOW[:-1])),
     (2, recording(12, *WINDOW, -131071)),
 ]
-# Orders with their limits in figures: as a fraction, as a decimal, and the peak's.
-LIMITS = [
-    ["1", "-", "-", "-"],
-    ["3", "2300", "2300.0000", "3450.0000"],
-    ["12", "460/3", "153.3333", "230.0000"],
-    ["39", "750/13", "57.6923", "86.5385"],
-    ["40", "46", "46.0000", "69.0000"],
-]
+# Of each class, orders with their limits in figures: as a fraction, as a decimal, and the peak's.
+LIMITS = {
+    "A": [
+        ["1", "-", "-", "-"],
+        ["3", "2300", "2300.0000", "3450.0000"],
+        ["12", "460/3", "153.3333", "230.0000"],
+        ["39", "750/13", "57.6923", "86.5385"],
+        ["40", "46", "46.0000", "69.0000"],
+    ],
+    "B": [
+        ["1", "-", "-", "-"],
+        ["3", "3450", "3450.0000", "5175.0000"],
+        ["12", "230", "230.0000", "345.0000"],
+        ["39", "1125/13", "86.5385", "129.8077"],
+        ["40", "69", "69.0000", "103.5000"],
+    ],
+}
+LETTERS = ["a", "b", "C", "D", "", "AB", " A", "\xc1"]
 SCALES = ["0", "268435457", "4294967296", "4311351296", "99999999999999999999", "-1", "1.5", " 1", "x", ""]
 
 
@@ -82,30 +92,41 @@ def main():
         line = f"refused{number:3d}\n"
         what = f"{number} in {text[:40]!r}"
         same(f"harmlist, {what}", run([harmlist], text)[0], line.encode())
-        for scale in [SCALE, "0"]:
-            same(f"report, {what}", run([report, scale], text), (line.encode(), b"", 1))
+        for letter, scale in [(CLASS, SCALE), ("b", "0")]:
+            same(f"report, {what}", run([report, letter, scale], text), (line.encode(), b"", 1))
     whole = recording(10, *WINDOW)
+    for letter in LETTERS:
+        for scale in [SCALE, "0"]:
+            same(f"report, class {letter!r}", run([report, letter, scale], whole), (b"refused 15\n", b"", 1))
     for scale in SCALES:
-        same(f"report, {scale!r} units per ampere", run([report, scale], whole), (b"refused 11\n", b"", 1))
+        same(f"report, {scale!r} units per ampere", run([report, CLASS, scale], whole), (b"refused 11\n", b"", 1))
     for scale in ["1", "268435456"]:
-        same(f"report, {scale!r} units per ampere", run([report, scale], whole)[1:], (b"", 0))
-    same("report without units per ampere", run([report], whole)[::2], (b"", 2))
+        same(f"report, {scale!r} units per ampere", run([report, CLASS, scale], whole)[1:], (b"", 0))
+    for arguments in [[], [CLASS], [CLASS, SCALE, SCALE]]:
+        same(f"report with {arguments!r}", run([report, *arguments], whole)[::2], (b"", 2))
     with open("/dev/full", "wb") as full:
-        done = subprocess.run([report, SCALE], input=whole.encode(), stdout=full, stderr=subprocess.PIPE, check=False)
+        done = subprocess.run([report, CLASS, SCALE], input=whole.encode(), stdout=full, stderr=subprocess.PIPE, check=False)
         same("report that cannot be written", done.returncode, 2)
     folder = os.open("/", os.O_RDONLY)  # a read from it fails
-    done = subprocess.run([report, SCALE], stdin=folder, capture_output=True, check=False)
+    done = subprocess.run([report, CLASS, SCALE], stdin=folder, capture_output=True, check=False)
     same("report of what cannot be read", (done.stdout, done.returncode), (b"", 2))
 
     listing = run([harmlist], whole)[0].decode()
-    good = run([report, SCALE], whole)[0].decode()
-    rows = [line.split() for line in good.splitlines()]
-    for row in LIMITS:
-        same(f"report, the limits of order {row[0]}", [found[3:6] for found in rows if found[:1] == row[:1]], [row[1:]])
-    same("report, the margin", rows[3], ["margin,", "units", "12"])
-    same("picture of a report", run([picture], good)[1:], (b"", 0))
+    for letter, limits in LIMITS.items():
+        good = run([report, letter, SCALE], whole)[0].decode()
+        rows = [line.split() for line in good.splitlines()]
+        same("report, the class", rows[0], ["class", letter])
+        same("report, the margin", rows[4], ["margin,", "units", "12"])
+        for row in limits:
+            found = [found[3:6] for found in rows if found[:1] == row[:1]]
+            same(f"report, the limits of order {row[0]} in class {letter}", found, [row[1:]])
+        drawn = run([picture], good)
+        same(f"picture of a report, class {letter}", drawn[1:], (b"", 0))
+        same("picture, its class", drawn[0].count(f"against class {letter};".encode()), 1)
+    good = run([report, CLASS, SCALE], whole)[0].decode()
     others = ["", "\n", "refused 13\n", listing, good[:-1], good + "\n", good + good, good.replace("within", "Within", 1)]
     others += ["\xff", good.replace("limit", "limit\xff", 1), good.replace(".", "9" * 400 + ".", 1), good.replace(SCALE, "9" * 400, 1)]
+    others += [good.replace("class ", "", 1), good.replace(" A\n", " C\n", 1), good.replace(" A\n", " AB\n", 1)]
     others += [good.replace("margin, units", "margin", 1), good.replace("limit", "Limit", 1), good.replace("\n    7 ", "\n    8 ", 1)]
     others += [good.replace(" 460/3 ", wrong, 1) for wrong in (" 460/0 ", " 0/3 ", " 460/ ", " 460.3 ", " 460/3/1 ")]
     for text in others:

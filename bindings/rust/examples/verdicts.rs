@@ -1,7 +1,7 @@
-//! From samples to verdicts: the current of `examples/c/verdicts.c`, judged against class A.
+//! From samples to verdicts: the current of `examples/c/verdicts.c`, judged against class A and class B.
 
 use kifsang::{Kind, Refusal, Verdict};
-use kifsang::{CLASS_A, ORDER_COUNT, RECORD_WORDS, UNITS_PER_COUNT, WINDOW_LENGTH};
+use kifsang::{CLASS_A, CLASS_B, ORDER_COUNT, RECORD_WORDS, UNITS_PER_COUNT, WINDOW_LENGTH};
 use std::f64::consts::TAU;
 
 /// Cycles in a window: 50 Hz.
@@ -21,6 +21,14 @@ fn samples() -> Vec<i32> {
     (0..WINDOWS * WINDOW_LENGTH).map(sample).collect()
 }
 
+fn word(verdict: Verdict) -> &'static str {
+    match verdict {
+        Verdict::Within => "within",
+        Verdict::Close => "close",
+        Verdict::Over => "over",
+    }
+}
+
 fn main() -> Result<(), Refusal> {
     let mut record = [0; RECORD_WORDS];
     kifsang::observe(
@@ -32,12 +40,13 @@ fn main() -> Result<(), Refusal> {
         &mut record,
     )?;
     for order in 2..=ORDER_COUNT as u32 {
-        let name = match kifsang::verdict(&record, order, CLASS_A, UNITS_PER_AMPERE)? {
-            Verdict::Within => "within",
-            Verdict::Close => "close",
-            Verdict::Over => "over",
-        };
-        println!("order {order:2}: {name}");
+        let in_a = kifsang::verdict(&record, order, CLASS_A, UNITS_PER_AMPERE)?;
+        let in_b = kifsang::verdict(&record, order, CLASS_B, UNITS_PER_AMPERE)?;
+        println!(
+            "order {order:2}: class A {}, class B {}",
+            word(in_a),
+            word(in_b)
+        );
     }
     Ok(())
 }

@@ -1,13 +1,13 @@
-//! The recordings of `examples/recordings`, judged by the core as the script beside them says, in class A.
+//! The recordings of `examples/recordings`, judged by the core in both classes as the script beside them says.
 
 use crate::Tally;
-use kifsang::{Kind, Verdict, CLASS_A, ORDER_COUNT, RECORD_WORDS, WINDOW_LENGTH};
+use kifsang::{Kind, Verdict, CLASS_A, CLASS_B, ORDER_COUNT, RECORD_WORDS, WINDOW_LENGTH};
 
 /// 4,000 counts per ampere, 4,096 units in a count.
 const UNITS_PER_AMPERE: u32 = 4_000 * 4_096;
 
-/// The orders 2..40 that are over their limit, and those that are close.
-fn over_and_close(name: &str) -> (Vec<u32>, Vec<u32>) {
+/// The orders 2..40 that are over their limit in a class, and those that are close.
+fn over_and_close(name: &str, class_letter: u8) -> (Vec<u32>, Vec<u32>) {
     let path = format!("examples/recordings/{name}.txt");
     let text = std::fs::read(path).expect("the recording");
     let numbers: Vec<i64> = text
@@ -28,7 +28,7 @@ fn over_and_close(name: &str) -> (Vec<u32>, Vec<u32>) {
     )
     .expect("a record");
     let judged = |verdict| {
-        let given = |order| kifsang::verdict(&record, order, CLASS_A, UNITS_PER_AMPERE);
+        let given = |order| kifsang::verdict(&record, order, class_letter, UNITS_PER_AMPERE);
         (2..=ORDER_COUNT as u32)
             .filter(|&order| given(order) == Ok(verdict))
             .collect()
@@ -37,10 +37,17 @@ fn over_and_close(name: &str) -> (Vec<u32>, Vec<u32>) {
 }
 
 pub fn compare(tally: &mut Tally) {
-    let none = (Vec::new(), Vec::new());
-    tally.same("the heater's orders", over_and_close("heater_passes"), none);
-    let (over, close) = over_and_close("supply_fails");
-    let several_odd = over.len() > 1 && over.iter().all(|order| order % 2 == 1);
-    tally.same("the supply's odd orders are over", several_odd, true);
-    tally.same("the supply's other orders", close, Vec::new());
+    let [a, b] = [CLASS_A, CLASS_B].map(|class_letter| {
+        for name in ["heater_passes", "dimmer"] {
+            let none = (Vec::new(), Vec::new());
+            tally.same(name, over_and_close(name, class_letter), none);
+        }
+        let (over, close) = over_and_close("supply_fails", class_letter);
+        let several_odd = over.len() > 1 && over.iter().all(|order| order % 2 == 1);
+        tally.same("the supply's odd orders are over", several_odd, true);
+        tally.same("the supply's other orders", close, Vec::new());
+        over
+    });
+    let fewer = b.len() < a.len() && b.iter().all(|order| a.contains(order));
+    tally.same("the supply is over at fewer orders in class B", fewer, true);
 }
