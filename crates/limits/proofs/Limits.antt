@@ -15,7 +15,8 @@ use Rattle.algebra.proofs.LowestTerms.{lowestTerms-≈ᶠ}
 use Rattle.refusals.specs.Numbers.{noRefusal, orderOutOfRange}
 use Rattle.refusals.proofs.Answers.{no-faults}
 use Rattle.rows.specs.Orders.{orderCount}
-use Rattle.fractions.specs.Parts.{parts}
+use Rattle.fractions.specs.declared.Fraction.{Fraction as Held}
+use Rattle.fractions.specs.Parts.{held, parts}
 use Rattle.limits.specs.declared.Class.{Class}
 use Rattle.limits.specs.declared.Class.the-variants.{A, B}
 use Rattle.limits.specs.Letters.{classWith}
@@ -28,6 +29,9 @@ largestNumerator = 3450
 
 abbrev pub largestDenominator : ℕ
 largestDenominator = 37
+
+abbrev isSmall : Fraction → Bool
+isSmall limit = leb (limit .num) largestNumerator && leb (limit .den) largestDenominator
 
 -- ---- a call that is not refused
 
@@ -56,17 +60,16 @@ module _ (order : ℕ) (has-limit : hasLimit order ≡ true) where
   computed : (test : ℕ → Bool) → T (allPass {A = ℕ} (λ h _. test h) (replicate (suc orderCount) 0)) → T (test order)
   computed test passed = pass-below test (suc orderCount) passed order (omega (arith, limited-le))
 
-  bounded : (class : Class) → T (leb (listedLimit class order .num) largestNumerator && leb (listedLimit class order .den) largestDenominator)
+  bounded : (class : Class) → T (isSmall (listedLimit class order))
   unfolding limitOf classALimit figureIn ownFigures overOrder whole times divide lowestTerms leastDenominator least
-  bounded A = computed (λ h. leb (listedLimit A h .num) largestNumerator && leb (listedLimit A h .den) largestDenominator) tt
-  bounded B = computed (λ h. leb (listedLimit B h .num) largestNumerator && leb (listedLimit B h .den) largestDenominator) tt
+  bounded A = computed (λ h. isSmall (listedLimit A h)) tt
+  bounded B = computed (λ h. isSmall (listedLimit B h)) tt
 
   pub listedLimit-le : (class : Class) → (listedLimit class order .num ≤ largestNumerator) × (listedLimit class order .den ≤ largestDenominator)
   listedLimit-le class =
-      let num = listedLimit class order .num in
-      let den = listedLimit class order .den in
-      let passed = both-pass (leb num largestNumerator) (leb den largestDenominator) (bounded class) in
-      (leb→le num largestNumerator (passed .0), leb→le den largestDenominator (passed .1))
+      let limit = listedLimit class order in
+      let passed = both-pass (leb (limit .num) largestNumerator) (leb (limit .den) largestDenominator) (bounded class) in
+      (leb→le (limit .num) largestNumerator (passed .0), leb→le (limit .den) largestDenominator (passed .1))
 
 -- the listed limit is equal to the rule's, by cross products
 pub listedLimit-equal : (class : Class) (order : ℕ) → listedLimit class order ≈ᶠ limitOf class order
@@ -87,16 +90,17 @@ common-range p = go (eqb (p .num % 2) 0) (eqb (p .den % 3) 0)
     go false true = (omega arith, omega arith)
     go false false = (omega arith, omega arith)
 
--- class B's parts are class A's, with that cancelled
-module _ (order : ℕ) (has-limit : hasLimit order ≡ true) where
-  pub class-B-num : 3 * listedLimit A order .num / common (listedLimit A order) ≡ listedLimit B order .num
-  unfolding limitOf classALimit figureIn ownFigures overOrder whole times divide lowestTerms leastDenominator least
-  class-B-num =
-      eqb→eq _ _
-      (computed order has-limit (λ h. eqb (3 * listedLimit A h .num / common (listedLimit A h)) (listedLimit B h .num)) tt)
+-- three halves of it, with that cancelled
+abbrev pub cancelled : Fraction → Held
+cancelled p = held (3 * p .num / common p) (2 * p .den / common p)
 
-  pub class-B-den : 2 * listedLimit A order .den / common (listedLimit A order) ≡ listedLimit B order .den
-  unfolding limitOf classALimit figureIn ownFigures overOrder whole times divide lowestTerms leastDenominator least
-  class-B-den =
-      eqb→eq _ _
-      (computed order has-limit (λ h. eqb (2 * listedLimit A h .den / common (listedLimit A h)) (listedLimit B h .den)) tt)
+-- class B's listed limit is that of class A's
+pub class-B-listed : (order : ℕ) → hasLimit order ≡ true → cancelled (listedLimit A order) ≡ parts (listedLimit B order)
+unfolding limitOf classALimit figureIn ownFigures overOrder whole times divide lowestTerms leastDenominator least
+class-B-listed order has-limit =
+    let isNum : ℕ → Bool = λ h. eqb (cancelled (listedLimit A h) .numerator) (listedLimit B h .num) in
+    let isDen : ℕ → Bool = λ h. eqb (cancelled (listedLimit A h) .denominator) (listedLimit B h .den) in
+    let passed = both-pass (isNum order) (isDen order) (computed order has-limit (λ h. isNum h && isDen h) tt) in
+    let num-is = eqb→eq _ _ (passed .0) in
+    let den-is = eqb→eq _ _ (passed .1) in
+    λ i. held (num-is i) (den-is i)

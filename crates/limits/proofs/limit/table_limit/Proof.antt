@@ -4,9 +4,9 @@ use borrow.Author.Needs.{needs}
 use Prim.Native.Nat.{_*_, _<_}
 use native.Mathlib.Omega.{arith}
 use Rattle.algebra.specs.Fraction.{Fraction}
-use Rattle.limits.specs.declared.Class.the-variants.{A, B}
+use Rattle.limits.specs.declared.Class.the-variants.{A}
 use Rattle.limits.specs.Limit.{listedLimit}
-use Rattle.limits.proofs.Limits.{common, common-range, class-B-num, class-B-den}
+use Rattle.limits.proofs.Limits.{common, common-range, class-B-listed}
 use Rattle.limits.proofs.limit.table_limit.Statement.{statement}
 use Rattle.limits.proofs.limit.table_limit.Tie as tie
 
@@ -36,9 +36,7 @@ returns-2 : tie.Need-returns-2
 unfolding listed
 returns-2 c =
     let at = c .before .before .before .before .before .before in
-    let order = at .before .args .order in
-    let has-limit = at .before .pre in
-    rw (c .before .before .enum-told2 .given .1, common-is c, at .row-of .ensures, class-B-num order has-limit, class-B-den order has-limit)
+    rw (c .before .before .enum-told2 .given .1, common-is c, at .row-of .ensures) (class-B-listed (at .before .args .order) (at .before .pre))
 
 pub table-limit-spec : {M : Type 1} → statement M
 table-limit-spec =

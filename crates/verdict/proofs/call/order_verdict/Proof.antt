@@ -1,9 +1,9 @@
 -- `verdict::call::order_verdict` meets its contract: the refusal, or the verdict of a call that is not refused, in the class that its letter names.
-use mathlib.Core.Path.{_≡_, sym, _∙_}
+use mathlib.Core.Path.{sym, _∙_}
 use borrow.Author.Needs.{needs}
 use borrow.Author.Tests.{ne-eqb}
 use Rattle.refusals.specs.Numbers.{noRefusal}
-use Rattle.verdict.specs.Call.{verdictRefusal, verdictAnswer, refusalNumber}
+use Rattle.verdict.specs.Call.{verdictAnswer, refusalNumber}
 use Rattle.verdict.proofs.Verdicts.{Accepted, accepted}
 use Rattle.verdict.proofs.call.order_verdict.Statement.{statement}
 use Rattle.verdict.proofs.call.order_verdict.Tie as tie
