@@ -24,7 +24,7 @@ static uint64_t observed[KIFSANG_RECORD_WORDS], one_by_one[KIFSANG_RECORD_WORDS]
 static uint32_t core_row[ORDERS], c_row[ORDERS];
 static unsigned char core_text[KIFSANG_LISTING_ROOM], c_text[KIFSANG_LISTING_ROOM];
 static uint16_t c_limits[2][39][2]; /* class A's and class B's */
-static volatile uint8_t letter = 'A'; /* of the class in which limits and verdicts are asked */
+static volatile uint8_t asked_letter; /* of the class in which limits and verdicts are asked */
 static volatile uint64_t result;
 
 /* ---- plain C */
@@ -168,10 +168,10 @@ static void core_distortion(void) { uint64_t t = 0; kifsang_distortion(core_row,
 static void plain_distortion(void) { result = c_distortion(); }
 static void core_add(void) { kifsang_add_row(core_record, KIFSANG_RECORD_WORDS, SYSTEM, core_row, ORDERS); }
 static void plain_add(void) { c_add_row(c_record, c_row); }
-static void core_limit(void) { uint64_t n = 0, d = 0; kifsang_limit(39, letter, &n, &d); result = n * 100 + d; }
-static void plain_limit(void) { uint64_t n = 0, d = 0; c_limit(39, letter, &n, &d); result = n * 100 + d; }
-static void core_verdict(void) { uint32_t v = 9; kifsang_verdict(sound_record, KIFSANG_RECORD_WORDS, 3, letter, 1000000, &v); result = v; }
-static void plain_verdict(void) { result = c_verdict(sound_record, letter); }
+static void core_limit(void) { uint64_t n = 0, d = 0; kifsang_limit(39, asked_letter, &n, &d); result = n * 100 + d; }
+static void plain_limit(void) { uint64_t n = 0, d = 0; c_limit(39, asked_letter, &n, &d); result = n * 100 + d; }
+static void core_verdict(void) { uint32_t v = 9; kifsang_verdict(sound_record, KIFSANG_RECORD_WORDS, 3, asked_letter, 1000000, &v); result = v; }
+static void plain_verdict(void) { result = c_verdict(sound_record, asked_letter); }
 static void core_listing(void)
 {
     uint64_t written;
@@ -264,7 +264,8 @@ int main(void)
     same("add_row", core_record, c_record, sizeof c_record);
     memcpy(sound_record, core_record, sizeof core_record);
     c_fill_limits();
-    for (letter = 'A'; letter <= 'C'; letter++) {
+    for (uint8_t letter = 'A'; letter <= 'C'; letter++) {
+        asked_letter = letter;
         for (uint32_t order = 0; order <= ORDERS + 1; order++) {
             uint64_t core[3] = {0}, plain[3] = {0};
             core[0] = kifsang_limit(order, letter, &core[1], &core[2]);
@@ -302,7 +303,7 @@ int main(void)
         {"one by one, 50 windows", core_one_by_one, c_observe, 1, 0},
     };
     for (size_t i = 0; i < sizeof calls / sizeof calls[0]; i++) {
-        letter = calls[i].letter;
+        asked_letter = calls[i].letter;
         double core = least_time(calls[i].core, calls[i].calls), plain = least_time(calls[i].plain, calls[i].calls);
         printf("%-22s core %9.3f us, C %9.3f us, ratio %5.2f\n", calls[i].name, 1e6 * core, 1e6 * plain,
                core / plain);

@@ -54,7 +54,7 @@ def read_report(text):
         raise ValueError("no report")
     class_letter = re.fullmatch("class +([AB])", first)
     if class_letter is None:
-        raise ValueError("no report: class is missing")
+        raise ValueError("no report: no class that is known")
     head = []
     for name, line in zip(HEAD, lines):
         found = re.fullmatch(re.escape(name) + WHOLE, line)

@@ -155,10 +155,10 @@ enum kifsang_kind {
 };
 
 /* The letters of the classes of equipment, bytes of ASCII. Every other byte is refused, small letters too;
- * a number above 255 is cut to a byte by the compiler, before the call. */
+ * any other integer is cut to its low byte by the compiler, before the call: 321 and -191 are A. */
 enum kifsang_class {
-    KIFSANG_CLASS_A = 'A',
-    KIFSANG_CLASS_B = 'B' /* portable tools */
+    KIFSANG_CLASS_A = 65, /* 'A' */
+    KIFSANG_CLASS_B = 66  /* 'B': portable tools */
 };
 
 /* How an order stands to its limit. 0 is none of them: a variable that was zeroed, and that a refused
@@ -329,10 +329,10 @@ uint32_t kifsang_observe(const int32_t *recording, uint64_t recording_length, ui
                          uint64_t record_words);
 
 /*
- * Looks up the limit of an order in a class: the milliamperes r.m.s. up to which the class lets its
- * average go, as an exact fraction in lowest terms. Its peak may go up to KIFSANG_PEAK_PERCENT per cent of
- * that. It is to be printed or drawn; kifsang_verdict compares with the fraction itself, and a rounded
- * quotient is none.
+ * Looks up the limit of an order in a class: the milliamperes r.m.s. up to which the average of the order
+ * may go, as an exact fraction in lowest terms. Its peak may go up to KIFSANG_PEAK_PERCENT per cent of that.
+ * It is to be printed or drawn; kifsang_verdict compares with the fraction itself, and a rounded quotient
+ * is none.
  *
  *   order         in    2..40
  *   class_letter  in    'A' or 'B', an enum kifsang_class

@@ -57,7 +57,8 @@ pub const SMOOTHED_MARGIN: u32 = 12;
 /// Per cent of the limit: what the peak of an order is judged against.
 pub const PEAK_PERCENT: u32 = 150;
 
-/// The class letter of class A. Any byte may be handed over as a class letter; the core looks at it.
+/// The class letter of class A. A class letter is a byte, as a front panel or a file has it, and the core
+/// refuses any other with 15.
 pub const CLASS_A: u8 = b'A';
 /// The class letter of class B: portable tools.
 pub const CLASS_B: u8 = b'B';
@@ -444,7 +445,7 @@ pub fn observe(
 }
 
 /// Looks up the limit of an order, 2..40, in a class, [`CLASS_A`] or [`CLASS_B`]: the milliamperes r.m.s.
-/// up to which the class lets its average go. Its peak may go up to [`PEAK_PERCENT`] per cent of that.
+/// up to which the average of the order may go. Its peak may go up to [`PEAK_PERCENT`] per cent of that.
 ///
 /// Refusals: 6 order outside 2..40; 15 class letter not A or B.
 ///

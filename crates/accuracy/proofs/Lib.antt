@@ -7,4 +7,5 @@ pub mod Verdicts
 pub mod ObservedRows
 pub mod Demand3
 pub mod BooksExist
+pub mod VerdictsGiven
 pub mod WorkedExample

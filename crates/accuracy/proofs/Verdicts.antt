@@ -15,12 +15,13 @@ use Rattle.observation.specs.Average.{averageOf, peakOf}
 use Rattle.observation.specs.Calls.{bookAt}
 use Rattle.limits.specs.declared.Class.{Class}
 use Rattle.limits.specs.Letters.{classWith}
+use Rattle.limits.proofs.ClassLetters.{classWith-letter}
 use Rattle.verdict.specs.declared.Question.{Question}
 use Rattle.verdict.specs.declared.Verdict.{Verdict}
 use Rattle.verdict.specs.declared.Verdict.the-variants.{Within, Close, Over}
 use Rattle.verdict.specs.Limit.{limitInUnits, peakLimitInUnits}
 use Rattle.verdict.specs.Call.{verdictRefusal, verdictIn, verdictOf}
-use Rattle.verdict.proofs.Verdicts.{Says, verdict-says, verdict-order, accepted-given}
+use Rattle.verdict.proofs.Verdicts.{Says, verdict-says, verdict-order, accepted, accepted-given}
 use Rattle.accuracy.specs.ExactBook.{exact}
 use Rattle.accuracy.specs.Rule.{exactAverage, reportedAverage, PeakExceeds}
 use Rattle.accuracy.specs.CallList.{CallList, after, ExactBook, state}
@@ -91,6 +92,8 @@ pub given-verdict :
     GivenVerdict kind list q
 given-verdict kind list q asked kept =
     record {
+      class = classWith (q .letter);
+      named = classWith-letter (q .letter) (accepted (after list) q asked .known-class);
       verdict = verdictOf (after list) q;
       given = accepted-given (after list) q asked;
       of-order = verdict-order (classWith (q .letter)) (after list) (q .order) (q .scale);

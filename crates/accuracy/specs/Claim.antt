@@ -19,7 +19,7 @@ use Rattle.observation.specs.Calls.{bookAt}
 use Rattle.observation.specs.BookCalls.{EachAccepted, Fed, valueAt}
 use Rattle.observe.specs.Observe.{windowRows, observeRefusal, observeAnswer}
 use Rattle.limits.specs.declared.Class.{Class}
-use Rattle.limits.specs.Letters.{classWith}
+use Rattle.limits.specs.Letters.{letterOf}
 use Rattle.verdict.specs.declared.Question.{Question}
 use Rattle.verdict.specs.declared.Verdict.{Verdict}
 use Rattle.verdict.specs.declared.Verdict.the-variants.{Within, Close, Over}
@@ -68,12 +68,14 @@ module _ (kind : Kind) (list : CallList) where
   Keeps class order scale (Close h) =
       AverageTouches class order scale (reportedBook list order) ⊎ PeakTouches class order scale (reportedBook list order)
 
-  -- a verdict is given, for the order that was asked, and it keeps its claim in the class that the letter names
+  -- the letter names a class; a verdict is given, for the order that was asked, and it keeps its claim in that class
   pub record GivenVerdict (q : Question) : Type 0 where
+    pub class : Class
+    pub named : letterOf class ≡ q .letter
     pub verdict : Verdict
     pub given : verdictAnswer (after list) q ≡ Given verdict
     pub of-order : orderNumber verdict ≡ q .order
-    pub kept : Keeps (classWith (q .letter)) (q .order) (q .scale) verdict
+    pub kept : Keeps class (q .order) (q .scale) verdict
 
   -- what holds after a list of calls, and of the verdicts then asked
   pub record ListHolds : Type 0 where

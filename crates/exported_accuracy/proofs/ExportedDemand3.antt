@@ -57,6 +57,8 @@ module _
         let given = claimed .verdicts q passed in
         let same = given-case o q (given .verdict) (given .given) .1 in
         record {
+          class = given .class;
+          named = given .named;
           verdict = given .verdict;
           of-order = given .of-order;
           number = λ before. rw (asked, held, same);

@@ -1,4 +1,4 @@
--- Demand 3 of what the exported calls leave in the caller's buffers (document 01, "Groups", "The list" and "Class A verdicts").
+-- Demand 3 of what the exported calls leave in the caller's buffers (document 01, "Groups", "The list" and "Class A verdicts"), their verdicts in every class (document 02, card 1).
 use mathlib.Core.Path.{_≡_}
 use mathlib.Core.List.{List}
 use mathlib.Core.Option.{none, some}
@@ -10,7 +10,8 @@ use Rattle.refusals.specs.Numbers.{noRefusal}
 use Rattle.spectrum.specs.Line.{windowAt}
 use Rattle.spectrum.specs.Spectrum.{spectrumRefusal, spectrumExit}
 use Rattle.groups.specs.declared.Kind.{Kind}
-use Rattle.limits.specs.Letters.{classWith}
+use Rattle.limits.specs.declared.Class.{Class}
+use Rattle.limits.specs.Letters.{letterOf}
 use Rattle.verdict.specs.declared.Question.{Question}
 use Rattle.verdict.specs.declared.Verdict.{Verdict}
 use Rattle.observation.specs.Smoothing.{smoothedMargin}
@@ -30,12 +31,14 @@ use Rattle.exported_accuracy.specs.Calls.{Call, wordsAfter, listAfter}
 abbrev pub smoothedWord : List ℕ → ℕ → ℕ
 smoothedWord words order = getD words (smoothedPlace + (order - 1)) 0
 
--- a verdict call that is not refused leaves the number of a verdict of the order that keeps its claim, whatever the number was before
+-- a verdict call that is not refused leaves the number of a verdict of the order that keeps its claim in the class that the letter names, whatever the number was before
 pub record CalledVerdict (kind : Kind) (list : CallList) (words : List ℕ) (q : Question) : Type 0 where
+  pub class : Class
+  pub named : letterOf class ≡ q .letter
   pub verdict : Verdict
   pub of-order : orderNumber verdict ≡ q .order
   pub number : (before : ℕ) → verdictCallExit words q before ≡ verdictNumber verdict
-  pub kept : Keeps kind list (classWith (q .letter)) (q .order) (q .scale) verdict
+  pub kept : Keeps kind list class (q .order) (q .scale) verdict
 
 -- what some words hold after a list of document 01
 pub record WordsHold (kind : Kind) (list : CallList) (words : List ℕ) : Type 0 where

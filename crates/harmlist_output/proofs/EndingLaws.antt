@@ -30,6 +30,11 @@ module _ (reading : Reading) where
   unfolding finishRefusal
   finishRefusal-refused h f = rw (le-ltb largestRefusal (reading .refusal) h, ne-eqb (reading .refusal) noRefusal f)
 
+  -- in figures: document 01's numbers end at 14
+  finishRefusal-figures : (reading .refusal ≡ 14 → finishRefusal reading ≡ 14) × (reading .refusal ≡ 15 → finishRefusal reading ≡ 7)
+  unfolding finishRefusal
+  finishRefusal-figures = (λ e. rw e, λ e. rw e)
+
   pub finishRefusal-no-window : reading .refusal ≡ noRefusal → isSound (reading .observation) ≡ true
       → reading .observation .windows ≡ 0 → finishRefusal reading ≡ noWindow
   unfolding finishRefusal

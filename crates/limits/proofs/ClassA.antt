@@ -1,4 +1,4 @@
--- In class A the call for a limit answers what it answered before there was another class: document 01's limit in lowest terms, and 6 alone.
+-- In class A the call for a limit answers document 01's limit in lowest terms, and refuses with 6 alone.
 use mathlib.Core.Path.{_≡_, refl}
 use mathlib.Core.List.{[], _∷_}
 use Prim.Native.Nat.{ℕ}
@@ -11,10 +11,10 @@ use Rattle.limits.specs.Letters.{letterOf, isClass, classWith}
 use Rattle.limits.specs.Limit.{classALimit, limitOf}
 use Rattle.limits.specs.Call.{limitedOrderCheck, limitRefusal, limitAnswer}
 
-pub class-A-limit :
+pub limitAnswer-class-A :
     (order : ℕ) →
     let refusal = firstFault (limitedOrderCheck order ∷ []) in
     limitAnswer order (letterOf A)
     ≡ record { refusal = refusal; limit = parts (unlessRefused refusal (lowestTerms (classALimit order)) (whole 0)) }
 unfolding limitAnswer limitRefusal limitOf isClass classWith letterOf
-class-A-limit order = refl
+limitAnswer-class-A order = refl

@@ -1,6 +1,6 @@
 -- A letter names one class, and each class has one letter.
 use mathlib.Core.Path.{_≡_, refl, sym}
-use mathlib.Core.Bool.{Bool, true, false, cond, _||_}
+use mathlib.Core.Bool.{Bool, true, false, cond, _||_, true≢false}
 use Prim.Native.Nat.{ℕ}
 use lib.Dec.{eqb}
 use borrow.Author.Tests.{eqb-true}
@@ -16,15 +16,19 @@ letterOf-class B = (refl, refl)
 
 -- every letter that is taken is that of its class
 pub classWith-letter : (letter : ℕ) → isClass letter ≡ true → letterOf (classWith letter) ≡ letter
-unfolding isClass classWith letterOf
-classWith-letter letter = go (eqb letter 65) (eqb letter 66) refl refl
+unfolding isClass classWith
+classWith-letter letter = go (eqb letter (letterOf A)) (eqb letter (letterOf B)) refl refl
   where
     go :
         (a b : Bool) →
-        eqb letter 65 ≡ a →
-        eqb letter 66 ≡ b →
+        eqb letter (letterOf A) ≡ a →
+        eqb letter (letterOf B) ≡ b →
         a || b ≡ true →
         letterOf (cond b B A) ≡ letter
-    go a true e f taken = sym (eqb-true letter 66 f)
-    go true false e f taken = sym (eqb-true letter 65 e)
-    go false false e f taken = absurd (mathlib.Core.Bool.true≢false (sym taken))
+    go a true e f taken = sym (eqb-true _ _ f)
+    go true false e f taken = sym (eqb-true _ _ e)
+    go false false e f taken = absurd (true≢false (sym taken))
+
+-- so a class that has a letter is the one that it names
+pub class-named : (class : Class) (letter : ℕ) → letterOf class ≡ letter → classWith letter ≡ class
+class-named class letter named = rw (← named) (letterOf-class class .1)

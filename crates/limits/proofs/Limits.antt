@@ -1,9 +1,9 @@
 -- What callers use of the limits: which orders have one, what the call then answers, that it is the rule's, and how large its parts are.
 use mathlib.Core.Path.{_≡_, refl}
-use mathlib.Core.Bool.{Bool, true, false, cond, _&&_}
-use Prim.Native.Nat.{ℕ, suc, _*_, _/_, _%_, _≤_}
+use mathlib.Core.Bool.{Bool, true, _&&_}
+use Prim.Native.Nat.{ℕ, suc, _≤_}
 use native.Mathlib.Omega.{arith}
-use lib.Dec.{T, eqb, leb, eqb→eq, leb→le}
+use lib.Dec.{T, leb, leb→le}
 use lib.ListN.{replicate}
 use borrow.Author.Tests.{not-false}
 use Rattle.algebra.specs.Computed.{allPass}
@@ -15,8 +15,7 @@ use Rattle.algebra.proofs.LowestTerms.{lowestTerms-≈ᶠ}
 use Rattle.refusals.specs.Numbers.{noRefusal, orderOutOfRange}
 use Rattle.refusals.proofs.Answers.{no-faults}
 use Rattle.rows.specs.Orders.{orderCount}
-use Rattle.fractions.specs.declared.Fraction.{Fraction as Held}
-use Rattle.fractions.specs.Parts.{held, parts}
+use Rattle.fractions.specs.Parts.{parts}
 use Rattle.limits.specs.declared.Class.{Class}
 use Rattle.limits.specs.declared.Class.the-variants.{A, B}
 use Rattle.limits.specs.Letters.{classWith}
@@ -57,13 +56,13 @@ module _ (order : ℕ) (has-limit : hasLimit order ≡ true) where
   limitOrZero-limited class = rw has-limit
 
   -- a test that passes for the orders 0..40 passes for this one
-  computed : (test : ℕ → Bool) → T (allPass {A = ℕ} (λ h _. test h) (replicate (suc orderCount) 0)) → T (test order)
-  computed test passed = pass-below test (suc orderCount) passed order (omega (arith, limited-le))
+  pub limited-passes : (test : ℕ → Bool) → T (allPass {A = ℕ} (λ h _. test h) (replicate (suc orderCount) 0)) → T (test order)
+  limited-passes test passed = pass-below test (suc orderCount) passed order (omega (arith, limited-le))
 
   bounded : (class : Class) → T (isSmall (listedLimit class order))
   unfolding limitOf classALimit figureIn ownFigures overOrder whole times divide lowestTerms leastDenominator least
-  bounded A = computed (λ h. isSmall (listedLimit A h)) tt
-  bounded B = computed (λ h. isSmall (listedLimit B h)) tt
+  bounded A = limited-passes (λ h. isSmall (listedLimit A h)) tt
+  bounded B = limited-passes (λ h. isSmall (listedLimit B h)) tt
 
   pub listedLimit-le : (class : Class) → (listedLimit class order .num ≤ largestNumerator) × (listedLimit class order .den ≤ largestDenominator)
   listedLimit-le class =
@@ -74,33 +73,3 @@ module _ (order : ℕ) (has-limit : hasLimit order ≡ true) where
 -- the listed limit is equal to the rule's, by cross products
 pub listedLimit-equal : (class : Class) (order : ℕ) → listedLimit class order ≈ᶠ limitOf class order
 listedLimit-equal class order = lowestTerms-≈ᶠ (limitOf class order)
-
--- ---- three halves in lowest terms
-
--- what three times the numerator and twice the denominator of a fraction in lowest terms have in common
-abbrev pub common : Fraction → ℕ
-common p = cond (eqb (p .num % 2) 0) 2 1 * cond (eqb (p .den % 3) 0) 3 1
-
-pub common-range : (p : Fraction) → (1 ≤ common p) × (common p ≤ 6)
-common-range p = go (eqb (p .num % 2) 0) (eqb (p .den % 3) 0)
-  where
-    go : (even three : Bool) → (1 ≤ cond even 2 1 * cond three 3 1) × (cond even 2 1 * cond three 3 1 ≤ 6)
-    go true true = (omega arith, omega arith)
-    go true false = (omega arith, omega arith)
-    go false true = (omega arith, omega arith)
-    go false false = (omega arith, omega arith)
-
--- three halves of it, with that cancelled
-abbrev pub cancelled : Fraction → Held
-cancelled p = held (3 * p .num / common p) (2 * p .den / common p)
-
--- class B's listed limit is that of class A's
-pub class-B-listed : (order : ℕ) → hasLimit order ≡ true → cancelled (listedLimit A order) ≡ parts (listedLimit B order)
-unfolding limitOf classALimit figureIn ownFigures overOrder whole times divide lowestTerms leastDenominator least
-class-B-listed order has-limit =
-    let isNum : ℕ → Bool = λ h. eqb (cancelled (listedLimit A h) .numerator) (listedLimit B h .num) in
-    let isDen : ℕ → Bool = λ h. eqb (cancelled (listedLimit A h) .denominator) (listedLimit B h .den) in
-    let passed = both-pass (isNum order) (isDen order) (computed order has-limit (λ h. isNum h && isDen h) tt) in
-    let num-is = eqb→eq _ _ (passed .0) in
-    let den-is = eqb→eq _ _ (passed .1) in
-    λ i. held (num-is i) (den-is i)

@@ -126,7 +126,7 @@ answerCases =
     (12, 65, 0, 460, 3) ∷
     (39, 65, 0, 750, 13) ∷
     (37, 65, 0, 2250, 37) ∷
-    -- so in class B, where three halves share 2 with the numerator, 3 with the denominator, both or none
+    -- so in class B, where the parts of three halves share 2 (8 and 37), 2 and 3 (12), or nothing (32); 3 alone does not come
     (8, 66, 0, 345, 1) ∷
     (12, 66, 0, 230, 1) ∷
     (37, 66, 0, 3375, 37) ∷

@@ -15,7 +15,7 @@ pub fn is_class(letter: u8) -> bool
     (letter == LETTER_A) | (letter == LETTER_B)
 }
 
-// The class that a letter names.
+// The class that a letter names; A for one that names none, which no accepted call has.
 pub fn class_with(letter: u8) -> Class
     ensures { λ r. ⌜ r ≡ classWith letter ⌝ }
 {

@@ -24,7 +24,7 @@ pub fn has_limit(order: u32) -> bool
 }
 
 // A divisor where it divides the number, else 1.
-fn shared(number: u64, divisor: u64) -> u64
+fn divisor_or_one(number: u64, divisor: u64) -> u64
     requires { ⌜ 0 < divisor ⌝ }
     ensures { λ r. ⌜ r ≡ cond (eqb (number % divisor) 0) divisor 1 ⌝ }
 {
@@ -46,7 +46,7 @@ fn table_limit(class: Class, order: u32) -> Fraction
             denominator,
         },
         Class::B => {
-            let common = shared(numerator, 2) * shared(denominator, 3);
+            let common = divisor_or_one(numerator, 2) * divisor_or_one(denominator, 3);
             Fraction {
                 numerator: 3 * numerator / common,
                 denominator: 2 * denominator / common,

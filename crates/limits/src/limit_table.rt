@@ -1,4 +1,4 @@
-// The constant table of the limits, and its lookup.
+// The constant table of class A's limits, and its lookup.
 use crate::limit::FIRST_LIMITED;
 use crate::limit::LIMITED_ORDERS;
 ghost use mathlib.Core.Bool.{true};

@@ -1,8 +1,8 @@
--- What a sound record says of its numbers, what an accepted call says, and that a record stays sound: the empty record is, and a call leaves a sound record sound.
+-- What a sound record says of its numbers, what an accepted call says, and that a record stays sound: the empty record is, and a call and so a list of calls leaves a sound record sound.
 -- A record's lists may have any length here: past its end a list holds zeros.
 use mathlib.Core.Path.{_≡_, refl}
 use mathlib.Core.Bool.{Bool, true, false, not, cond}
-use mathlib.Core.List.{List, _∷_}
+use mathlib.Core.List.{List, [], _∷_}
 use Prim.Native.Nat.{ℕ, _+_, _*_, _<_, _≤_}
 use native.Mathlib.Nat.{max-le}
 use native.Mathlib.Omega.{arith}
@@ -23,6 +23,7 @@ use Rattle.observation.specs.Smoothing.{reported}
 use Rattle.observation.specs.Soundness.{mostWindows, noneAbove, allZero, soundTests, isSound}
 use Rattle.rows.specs.Rows.{largestValue, ValuesFit}
 use Rattle.observation.specs.Calls.{emptyRecord, freshRefusal, freshAnswer, bookAt, nextBook, withRow, rowChecks, addRowRefusal, addRowAnswer}
+use Rattle.observation.specs.RecordAfter.{recordAfter}
 use Rattle.observation.specs.BookCalls.{accepts, EachAccepted, AcceptedFit}
 use Rattle.observation.proofs.NoneAbove.{getD-le-of-none-above, none-above-tabulate}
 use Rattle.observation.proofs.Smoothed.{smoothed-next-le}
@@ -150,3 +151,18 @@ answer-sound o row rows sound fits =
     let both : ValuesFit row × AcceptedFit (o .system) (o .windows + 1) rows = rw e at fits in
     (with-row-sound o row sound (accepts-row (o .system) (o .windows) row e .room) (both .0), both .1))
     (λ e. (sound, rw e at fits))
+
+-- so the record after a list of calls is sound
+pub record-after-sound :
+    (o : Observation) (rows : List Row) → isSound o ≡ true → AcceptedFit (o .system) (o .windows) rows → isSound (recordAfter o rows) ≡ true
+unfolding recordAfter
+record-after-sound o [] sound fits = sound
+record-after-sound o (row ∷ rows) sound fits =
+    let next = answer-sound o row rows sound fits in
+    record-after-sound (addRowAnswer o row .observation) rows (next .0) (next .1)
+
+pub fresh-record-after-sound :
+    (system : ℕ) (rows : List Row) → isSystem system ≡ true → AcceptedFit system 0 rows → isSound (recordAfter (freshAnswer system .observation) rows) ≡ true
+unfolding emptyRecord
+fresh-record-after-sound system rows known fits =
+    rw (fresh-of-known system known) (record-after-sound (emptyRecord system) rows (empty-record-sound system known) fits)

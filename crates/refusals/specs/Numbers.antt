@@ -61,10 +61,10 @@ notAColumn = 13
 abbrev pub wrongBufferLength : ℕ
 wrongBufferLength = 14
 
+-- no refusal of document 01 has a larger number
+abbrev pub largestRefusal : ℕ
+largestRefusal = wrongBufferLength
+
 -- class letter other than A or B (document 02, card 1)
 abbrev pub unknownClass : ℕ
 unknownClass = 15
-
--- no refusal has a larger number
-abbrev pub largestRefusal : ℕ
-largestRefusal = unknownClass

@@ -34,10 +34,10 @@ pub const NO_FUNDAMENTAL: u32 = 12;
 pub const NOT_A_COLUMN: u32 = 13;
 // A text buffer of the wrong length.
 pub const WRONG_BUFFER_LENGTH: u32 = 14;
+// No refusal of document 01 has a larger number.
+pub const LARGEST_REFUSAL: u32 = WRONG_BUFFER_LENGTH;
 // A class letter other than A or B.
 pub const UNKNOWN_CLASS: u32 = 15;
-// No refusal has a larger number.
-pub const LARGEST_REFUSAL: u32 = UNKNOWN_CLASS;
 
 // What a public call answers: NO_REFUSAL with the value, or a refusal's number with 0.
 pub struct Answer {

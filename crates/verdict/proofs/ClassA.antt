@@ -1,4 +1,4 @@
--- A class A user sees what document 01 defines: the same verdicts and refusals, for every record, order and K.
+-- In class A the call answers what document 01 defines, verdicts and refusals, for every record, order and K.
 use mathlib.Core.Path.{_≡_, refl}
 use Prim.Native.Nat.{ℕ}
 use Rattle.observation.specs.declared.Observation.{Observation}
@@ -10,6 +10,6 @@ use Rattle.verdict.specs.Limit.{limitInUnits, peakLimitInUnits}
 use Rattle.verdict.specs.Call.{verdictIn, verdictRefusal, verdictAnswer}
 use Rattle.verdict.specs.ClassA.{answer01}
 
-pub class-A-as-before : (o : Observation) (order scale : ℕ) → verdictAnswer o (asked order (letterOf A) scale) ≡ answer01 o order scale
+pub verdictAnswer-class-A : (o : Observation) (order scale : ℕ) → verdictAnswer o (asked order (letterOf A) scale) ≡ answer01 o order scale
 unfolding verdictAnswer verdictRefusal verdictIn limitInUnits peakLimitInUnits limitOf answer01 isClass classWith letterOf
-class-A-as-before o order scale = refl
+verdictAnswer-class-A o order scale = refl

@@ -3,3 +3,4 @@ pub mod Worked
 pub mod Limits
 pub mod Verdicts
 pub mod ClassA
+pub mod ClassB

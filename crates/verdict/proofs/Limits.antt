@@ -37,7 +37,7 @@ isOver-same : (value p q : Held) → Same p q → isOver value p ≡ isOver valu
 unfolding isOver
 isOver-same value p q same = ap not (atMost-same value _ _ (raised-same p q smoothedMargin same))
 
-combined-same :
+pub combined-same :
     (average limit otherLimit peak peakLimit otherPeakLimit : Held) (order : ℕ) →
     Same limit otherLimit → Same peakLimit otherPeakLimit →
     combined average limit peak peakLimit order ≡ combined average otherLimit peak otherPeakLimit order

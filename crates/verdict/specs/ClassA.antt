@@ -1,4 +1,4 @@
--- Document 01's verdict, which knows one class and no letter ("Class A verdicts" and the refusal table's row "verdict"): what a class A user saw before there was another.
+-- Document 01's verdict, which knows one class and no letter ("Class A verdicts" and the refusal table's row "verdict").
 use mathlib.Core.Bool.{Bool, not}
 use mathlib.Core.List.{List, [], _∷_}
 use Prim.Native.Nat.{ℕ}
@@ -18,14 +18,20 @@ use Rattle.verdict.specs.Question.{isScale}
 use Rattle.verdict.specs.Limit.{inUnits}
 use Rattle.verdict.specs.Call.{combined}
 
-module _ (o : Observation) (order scale : ℕ) where
-  -- "The limit in units is the mA figure × K / 1000"
-  abbrev pub limit01 : Fraction
-  limit01 = inUnits scale (classALimit order)
+-- "The limit in units is the mA figure × K / 1000"
+abbrev pub limit01 : ℕ → ℕ → Fraction
+limit01 order scale = inUnits scale (classALimit order)
 
+module _ (o : Observation) (order scale : ℕ) where
   -- "the average (sum/n) against the limit, the peak against 150 % of it"
   abbrev pub verdict01 : Verdict
-  verdict01 = combined (parts (averageOf o order)) (parts limit01) (parts (peakOf o order)) (parts (threeHalves limit01)) order
+  verdict01 =
+      combined
+      (parts (averageOf o order))
+      (parts (limit01 order scale))
+      (parts (peakOf o order))
+      (parts (threeHalves (limit01 order scale)))
+      order
 
   -- "7 record not sound; 10 no window yet; 6 order outside 2..40; 11 K outside 1..2^28"
   abbrev pub checks01 : List (Bool × ℕ)

@@ -22,9 +22,9 @@ use Rattle.observation.specs.Book.{Book}
 use Rattle.observation.specs.Smoothing.{reported}
 use Rattle.observation.specs.Calls.{bookAt}
 use Rattle.limits.specs.declared.Class.{Class}
-use Rattle.limits.specs.declared.Class.the-variants.{A, B}
 use Rattle.limits.specs.Letters.{letterOf, classWith}
 use Rattle.limits.specs.Limit.{ownFigures, figureIn, classALimit, limitOf, overOrder}
+use Rattle.limits.proofs.ClassLetters.{class-named}
 use Rattle.verdict.specs.declared.Verdict.{Verdict}
 use Rattle.verdict.specs.declared.Verdict.the-variants.{Within, Close, Over}
 use Rattle.verdict.specs.Question.{asked}
@@ -108,76 +108,76 @@ within-12 kind rows order least most = (at 10 refl, at 12 refl)
         let held = ap (λ (book : Book reported). book .smoothed) (holds .same-books order least most) in
         rw held (omega (arith, holds .smoothed-low order least most l), omega (arith, holds .smoothed-high order least most u))
 
--- ---- the verdict of order 3: of a limit in milliamperes, mA × K / 1000 units and 150 % of that, 3 × mA × K / 2000
+-- ---- the verdict of an order: of a limit of num/den milliamperes, num × K / (1000 × den) units and 150 % of that, 3 × num × K / (2000 × den)
 
-module _ (kind : Kind) (list : CallList) (mA k : ℕ) where
+module _ (kind : Kind) (list : CallList) (order num den k : ℕ) where
   -- 1: every l book's average is at most the limit, and its peak at most 150 % of it
   abbrev SaysWithin : Type 0
   SaysWithin =
-      (l : LBook kind list 3) →
+      (l : LBook kind list order) →
       let book = state list l in
-      (book .sum .num * 1000 ≤ mA * k * (max (book .count) 1 * book .sum .den)) ×
-      (book .peak .num * 2000 ≤ 3 * mA * k * book .peak .den)
+      (book .sum .num * (1000 * den) ≤ num * k * (max (book .count) 1 * book .sum .den)) ×
+      (book .peak .num * (2000 * den) ≤ 3 * num * k * book .peak .den)
 
   -- 2: the reported average less 12 is at most the limit and with 12 more above it, or so the reported peak with 150 % of it
   abbrev SaysClose : Type 0
   SaysClose =
-      let book = reportedBook list 3 in
+      let book = reportedBook list order in
       let n = max (book .count) 1 in
-      ((book .sum * 1000 ≤ mA * k * n + 12000 * n) × (mA * k * n < book .sum * 1000 + 12000 * n)) ⊎
-      ((book .peak * 2000 ≤ 3 * mA * k + 24000) × (3 * mA * k < book .peak * 2000 + 24000))
+      ((book .sum * (1000 * den) ≤ num * k * n + 12000 * den * n) × (num * k * n < book .sum * (1000 * den) + 12000 * den * n)) ⊎
+      ((book .peak * (2000 * den) ≤ 3 * num * k + 24000 * den) × (3 * num * k < book .peak * (2000 * den) + 24000 * den))
 
   -- 3: every u book's average is above the limit, or every u book's peak above 150 % of it
   abbrev SaysOver : Type 0
   SaysOver =
-      ((u : UBook kind list 3) →
-      let book = state list u in mA * k * (max (book .count) 1 * book .sum .den) < book .sum .num * 1000) ⊎
-      ((u : UBook kind list 3) →
-      let book = state list u in 3 * mA * k * book .peak .den < book .peak .num * 2000)
+      ((u : UBook kind list order) →
+      let book = state list u in num * k * (max (book .count) 1 * book .sum .den) < book .sum .num * (1000 * den)) ⊎
+      ((u : UBook kind list order) →
+      let book = state list u in 3 * num * k * book .peak .den < book .peak .num * (2000 * den))
 
   -- the number is one of the three, and tells what stands with it
   abbrev NumberSays : ℕ → Type 0
   NumberSays number = ((number ≡ 1) × SaysWithin) ⊎ (((number ≡ 2) × SaysClose) ⊎ ((number ≡ 3) × SaysOver))
 
--- the limit of order 3 is 2,300 mA in class A, and 3,450 mA in class B
-abbrev figure : Class → ℕ
-figure A = 2300
-figure B = 3450
+verdict-number-says :
+    (kind : Kind) (list : CallList) (class : Class) (order k : ℕ) (verdict : Verdict) →
+    Keeps kind list class order k verdict →
+    NumberSays kind list order (limitOf class order .num) (limitOf class order .den) k (verdictNumber verdict)
+unfolding Keeps verdictNumber limitInUnits peakLimitInUnits whole times divide _+ᶠ_
+verdict-number-says kind list class order k (Within h) keeps = inl (refl, λ l. (omega (arith, keeps l .0), omega (arith, keeps l .1)))
+verdict-number-says kind list class order k (Close h) keeps =
+    let touches : SaysClose kind list order (limitOf class order .num) (limitOf class order .den) k =
+    ⊎-map
+    (λ average. (omega (arith, average .not-over), omega (arith, average .not-within)))
+    (λ peak. (omega (arith, peak .not-over), omega (arith, peak .not-within)))
+    keeps in
+    inr (inl (refl, touches))
+verdict-number-says kind list class order k (Over h) keeps =
+    inr (inr (refl, ⊎-map (λ every u. omega (arith, every u)) (λ every u. omega (arith, every u)) keeps))
 
-module _ (kind : Kind) (list : CallList) (k : ℕ) where
-  within-says : (class : Class) (h : ℕ) → Keeps kind list class 3 k (Within h) → SaysWithin kind list (figure class) k
-  unfolding Keeps limitInUnits peakLimitInUnits limitOf classALimit figureIn ownFigures overOrder whole times divide
-  within-says A h keeps l = (omega (arith, keeps l .0), omega (arith, keeps l .1))
-  within-says B h keeps l = (omega (arith, keeps l .0), omega (arith, keeps l .1))
+-- a class letter, an order, and the limit in milliamperes: 2,300 of order 3 and 2250/39 of order 39 in class A, and half as much again in class B
+abbrev EachFigure : (ℕ → ℕ → ℕ → ℕ → Type 0) → Type 0
+EachFigure P = P 65 3 2300 1 × P 66 3 6900 2 × P 65 39 2250 39 × P 66 39 6750 78
 
-  close-says : (class : Class) (h : ℕ) → Keeps kind list class 3 k (Close h) → SaysClose kind list (figure class) k
-  unfolding Keeps limitInUnits peakLimitInUnits limitOf classALimit figureIn ownFigures overOrder whole times divide _+ᶠ_
-  close-says A h keeps =
-      ⊎-map
-      (λ average. (omega (arith, average .not-over), omega (arith, average .not-within)))
-      (λ peak. (omega (arith, peak .not-over), omega (arith, peak .not-within)))
-      keeps
-  close-says B h keeps =
-      ⊎-map
-      (λ average. (omega (arith, average .not-over), omega (arith, average .not-within)))
-      (λ peak. (omega (arith, peak .not-over), omega (arith, peak .not-within)))
-      keeps
-
-  over-says : (class : Class) (h : ℕ) → Keeps kind list class 3 k (Over h) → SaysOver kind list (figure class) k
-  unfolding Keeps limitInUnits peakLimitInUnits limitOf classALimit figureIn ownFigures overOrder whole times divide
-  over-says A h keeps = ⊎-map (λ every u. omega (arith, every u)) (λ every u. omega (arith, every u)) keeps
-  over-says B h keeps = ⊎-map (λ every u. omega (arith, every u)) (λ every u. omega (arith, every u)) keeps
-
-  verdict-number-says :
-      (class : Class) (verdict : Verdict) → Keeps kind list class 3 k verdict → NumberSays kind list (figure class) k (verdictNumber verdict)
-  unfolding verdictNumber
-  verdict-number-says class (Within h) keeps = inl (refl, within-says class h keeps)
-  verdict-number-says class (Close h) keeps = inr (inl (refl, close-says class h keeps))
-  verdict-number-says class (Over h) keeps = inr (inr (refl, over-says class h keeps))
-
--- a letter with its limit, in each class
-abbrev EachClass : (ℕ → ℕ → Type 0) → Type 0
-EachClass P = P 65 2300 × P 66 3450
+-- what the number of a verdict tells, of words that hold a record, whatever it was before the call
+module _ (kind : Kind) (list : CallList) (words : List ℕ) (holds : WordsHold kind list words) where
+  called-number-says :
+      (k before : ℕ) →
+      EachFigure (λ letter order num den.
+      verdictCallRefusal words (asked order letter k) ≡ 0 →
+      NumberSays kind list order num den k (verdictCallExit words (asked order letter k) before))
+  unfolding classWith letterOf limitOf classALimit figureIn ownFigures overOrder whole times divide
+  called-number-says k before = (at 65 3, at 66 3, at 65 39, at 66 39)
+    where
+      at :
+          (letter order : ℕ) →
+          verdictCallRefusal words (asked order letter k) ≡ 0 →
+          let limit = limitOf (classWith letter) order in
+          NumberSays kind list order (limit .num) (limit .den) k (verdictCallExit words (asked order letter k) before)
+      at letter order passed =
+          let given = holds .verdicts (asked order letter k) passed in
+          rw (given .number before, class-named (given .class) letter (given .named))
+          (verdict-number-says kind list (given .class) order k (given .verdict) (given .kept))
 
 -- ---- the words after any exported calls
 
@@ -194,22 +194,12 @@ module _
     words-within-12 order least most l u =
         (omega (arith, holds .smoothed-low order least most l), omega (arith, holds .smoothed-high order least most u))
 
-    -- what the number of a verdict of order 3 tells, whatever it was before the call
     words-verdict-number :
         (k before : ℕ) →
-        EachClass (λ letter mA.
-        verdictCallRefusal (wordsAfter words calls) (asked 3 letter k) ≡ 0 →
-        NumberSays kind list mA k (verdictCallExit (wordsAfter words calls) (asked 3 letter k) before))
-    unfolding classWith letterOf
-    words-verdict-number k before = (at 65, at 66)
-      where
-        at :
-            (letter : ℕ) →
-            verdictCallRefusal (wordsAfter words calls) (asked 3 letter k) ≡ 0 →
-            NumberSays kind list (figure (classWith letter)) k (verdictCallExit (wordsAfter words calls) (asked 3 letter k) before)
-        at letter passed =
-            let given = holds .verdicts (asked 3 letter k) passed in
-            rw (given .number before) (verdict-number-says kind list k (classWith letter) (given .verdict) (given .kept))
+        EachFigure (λ letter order num den.
+        verdictCallRefusal (wordsAfter words calls) (asked order letter k) ≡ 0 →
+        NumberSays kind list order num den k (verdictCallExit (wordsAfter words calls) (asked order letter k) before))
+    words-verdict-number = called-number-says kind list (wordsAfter words calls) holds
 
 -- ---- an observation
 
@@ -228,7 +218,7 @@ observed-within-12 kind system recording start windows order accepted least most
     rw (observed .same-record, held)
     (omega (arith, observed .holds .smoothed-low order least most l), omega (arith, observed .holds .smoothed-high order least most u))
 
--- the words that kifsang_observe leaves, of harmonic groups (kind 1), and the verdict of order 3 that is then asked
+-- the words that kifsang_observe leaves, of harmonic groups (kind 1), and the verdicts that are then asked
 module _
     (recording : List ℤ) (start windows system : ℕ) (before : List ℕ)
     (accepted : observeCallRefusal 1 system recording start windows before ≡ 0)
@@ -244,18 +234,13 @@ module _
 
     observed-verdict-number :
         (k number : ℕ) →
-        EachClass (λ letter mA.
-        verdictCallRefusal (observeCallExit 1 system recording start windows before) (asked 3 letter k) ≡ 0 →
-        NumberSays HarmonicGroup (observedList HarmonicGroup system recording start windows) mA k
-        (verdictCallExit (observeCallExit 1 system recording start windows before) (asked 3 letter k) number))
-    unfolding kindWith kinds classWith letterOf
-    observed-verdict-number k number = (at 65, at 66)
-      where
-        at :
-            (letter : ℕ) →
-            verdictCallRefusal (observeCallExit 1 system recording start windows before) (asked 3 letter k) ≡ 0 →
-            NumberSays HarmonicGroup (observedList HarmonicGroup system recording start windows) (figure (classWith letter)) k
-            (verdictCallExit (observeCallExit 1 system recording start windows before) (asked 3 letter k) number)
-        at letter passed =
-            let given = exported-demand3 .observed recording start 1 system windows before accepted .verdicts (asked 3 letter k) passed in
-            rw (given .number number) (verdict-number-says HarmonicGroup _ k (classWith letter) (given .verdict) (given .kept))
+        let words = observeCallExit 1 system recording start windows before in
+        EachFigure (λ letter order num den.
+        verdictCallRefusal words (asked order letter k) ≡ 0 →
+        NumberSays HarmonicGroup (observedList HarmonicGroup system recording start windows) order num den k
+        (verdictCallExit words (asked order letter k) number))
+    unfolding kindWith kinds
+    observed-verdict-number =
+        called-number-says HarmonicGroup (observedList HarmonicGroup system recording start windows)
+        (observeCallExit 1 system recording start windows before)
+        (exported-demand3 .observed recording start 1 system windows before accepted)

@@ -78,7 +78,8 @@ fn compare_letters(tally: &mut Tally, record: &Observation) {
     }
 }
 
-/// Averages and peaks some units from the limit of each order, or from 150 % of it, in both classes.
+/// Averages some units from the limit of each order, and peaks some units from 150 % of it with half that as
+/// the average, in both classes.
 fn compare_about_limits(tally: &mut Tally, random: &mut Random) {
     for class_letter in [CLASS_A, CLASS_B] {
         for order in 2..=ORDER_COUNT as u32 {
@@ -91,8 +92,9 @@ fn compare_about_limits(tally: &mut Tally, random: &mut Random) {
                         let near = (units + random.below(40)).saturating_sub(20);
                         let (mut record, _) = fresh_record(10);
                         record.windows = 1 + random.below(45_000);
+                        let average = if percent == 100 { near } else { near / 2 };
                         let place = order as usize - 1;
-                        record.sum[place] = record.windows * near + random.below(record.windows);
+                        record.sum[place] = record.windows * average + random.below(record.windows);
                         record.peak[place] = near;
                         compare_verdict(tally, &record, order, CLASS_A, scale);
                         compare_verdict(tally, &record, order, CLASS_B, scale);
