@@ -102,7 +102,10 @@ abbrev pulsed : Observation
 pulsed = after (exampleList HarmonicGroup pulse pulse)
 
 -- the third order after the list
-pulse-book : bookAt pulsed 2 ≡ record { count = 2; smoothed = 8944; sum = 17888; peak = 8944 }
+abbrev pulsedBook : Book reported
+pulsedBook = record { count = 2; smoothed = 8944; sum = 17888; peak = 8944 }
+
+pulse-book : bookAt pulsed 2 ≡ pulsedBook
 unfolding reportedFrom bookAfter bookCall ownValues accepts rowChecks isSystem exampleList workedRow otherSystemRow bookStep emptyBook smoothedNext smoothedValue nearest tabulate groupValues
 pulse-book = example-books HarmonicGroup pulse pulse pulse-window pulse-window 3 (omega arith) (omega arith) ∙ rw pulse-group
 
@@ -123,7 +126,7 @@ judged book class scale =
 pulse-answer :
     (class : Class) (scale : ℕ) (verdict : Verdict) →
     isScale scale ≡ true →
-    judged (record { count = 2; smoothed = 8944; sum = 17888; peak = 8944 }) class scale ≡ verdict →
+    judged pulsedBook class scale ≡ verdict →
     pulseAnswer class scale ≡ Given verdict
 unfolding isSystem exampleList verdictIn averageOf peakOf bookAt judged
 pulse-answer class scale verdict is-scale is =

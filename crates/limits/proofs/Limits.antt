@@ -29,6 +29,7 @@ largestNumerator = 3450
 abbrev pub largestDenominator : ℕ
 largestDenominator = 37
 
+-- its parts are at most these
 abbrev isSmall : Fraction → Bool
 isSmall limit = leb (limit .num) largestNumerator && leb (limit .den) largestDenominator
 

@@ -61,7 +61,7 @@ rule-worked = refl
 
 -- ---- class B
 
--- an order, and its limit in class B, in lowest terms: 150 % of class A's figures, which are printed in amperes, and of 0.15 x 15/n and 0.23 x 8/n
+-- an order, and its limit in class B in milliamperes, in lowest terms
 classBCases : List (ℕ × ℕ × ℕ)
 classBCases =
     (2, 1620, 1) ∷
@@ -135,7 +135,7 @@ answerCases =
     (2, 66, 0, 1620, 1) ∷
     (40, 66, 0, 69, 1) ∷
     (41, 66, 6, 0, 1) ∷
-    -- 15: the letters are A and B, as capitals; C and D, a and b, none and the last byte are no class
+    -- 15: the letters are A and B, as capitals; C and D, a and b, the first byte and the last are no class
     (3, 0, 15, 0, 1) ∷
     (3, 64, 15, 0, 1) ∷
     (3, 67, 15, 0, 1) ∷

@@ -78,28 +78,37 @@ fn compare_letters(tally: &mut Tally, record: &Observation) {
     }
 }
 
-/// Averages some units from the limit of each order, and peaks some units from 150 % of it with half that as
-/// the average, in both classes.
+/// Verdicts on records with a peak some units from a value, and that or a part of it as the average.
+fn compare_near(
+    tally: &mut Tally,
+    random: &mut Random,
+    order: u32,
+    scale: u32,
+    value: u64,
+    part: u64,
+) {
+    for _ in 0..20 {
+        let peak = (value + random.below(40)).saturating_sub(20);
+        let (mut record, _) = fresh_record(10);
+        record.windows = 1 + random.below(45_000);
+        let place = order as usize - 1;
+        record.sum[place] = record.windows * (peak / part) + random.below(record.windows);
+        record.peak[place] = peak;
+        compare_verdict(tally, &record, order, CLASS_A, scale);
+        compare_verdict(tally, &record, order, CLASS_B, scale);
+    }
+}
+
+/// About the limit of each order in both classes, where the average decides, and about 150 % of it with half
+/// of that as the average, where the peak does.
 fn compare_about_limits(tally: &mut Tally, random: &mut Random) {
     for class_letter in [CLASS_A, CLASS_B] {
         for order in 2..=ORDER_COUNT as u32 {
             let limit = order_limit(order.into(), class_letter).expect("an order with a limit");
             for scale in [1, 1000, 999_983, 1_000_000, 268_435_456] {
-                for percent in [100, 150] {
-                    let units = limit.numerator * u64::from(scale) * percent
-                        / (limit.denominator * 1000 * 100);
-                    for _ in 0..20 {
-                        let near = (units + random.below(40)).saturating_sub(20);
-                        let (mut record, _) = fresh_record(10);
-                        record.windows = 1 + random.below(45_000);
-                        let average = if percent == 100 { near } else { near / 2 };
-                        let place = order as usize - 1;
-                        record.sum[place] = record.windows * average + random.below(record.windows);
-                        record.peak[place] = near;
-                        compare_verdict(tally, &record, order, CLASS_A, scale);
-                        compare_verdict(tally, &record, order, CLASS_B, scale);
-                    }
-                }
+                let units = limit.numerator * u64::from(scale) / (limit.denominator * 1000);
+                compare_near(tally, random, order, scale, units, 1);
+                compare_near(tally, random, order, scale, units * 3 / 2, 2);
             }
         }
     }
