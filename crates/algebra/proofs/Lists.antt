@@ -130,7 +130,7 @@ tabulate-part l start n room =
     sym (getD-take n (drop start l) j 0 below ∙ getD-drop start l j 0))
 
 -- the whole of it
-pub tabulate-whole : (l : List ℕ) (n : ℕ) → length l ≡ n → tabulate n (λ j. getD l j 0) ≡ l
-tabulate-whole l n e =
-    let long = length-tabulate n (λ j. getD l j 0) in
-    ext-getD 0 _ _ (long ∙ sym e) (λ j h. getD-tabulate n (λ j. getD l j 0) j 0 (rw long at h))
+pub tabulate-whole : {A : Type 0} (d : A) (l : List A) (n : ℕ) → length l ≡ n → tabulate n (λ j. getD l j d) ≡ l
+tabulate-whole d l n e =
+    let long = length-tabulate n (λ j. getD l j d) in
+    ext-getD d _ _ (long ∙ sym e) (λ j h. getD-tabulate n (λ j. getD l j d) j d (rw long at h))

@@ -1,10 +1,10 @@
--- The laws of a sum over j = 0 .. n − 1: sums and differences of summands, a constant factor, and a bound.
-use mathlib.Core.Path.{_≡_, refl, sym, _∙_, ap}
+-- The laws of a sum over j = 0 .. n − 1: sums and differences of summands, a constant factor, a bound, the same summands in another order, and pairs of summands about the middle.
+use mathlib.Core.Path.{_≡_, refl, sym, _∙_, ap, ap₂}
 use mathlib.Core.List.{[], _∷_}
-use Prim.Native.Nat.{ℕ, zero, suc, _*_, _^_, _≤_, _<_}
-use native.Mathlib.Nat.{le-refl, le-step, le-trans, add-le-add}
+use Prim.Native.Nat.{ℕ, zero, suc, _+_, _-_, _*_, _^_, _≤_, _<_}
+use native.Mathlib.Nat.{le-refl, le-step, le-trans, add-le-add, add-zero, add-suc, sub-zero, suc-sub-suc}
 use native.Mathlib.Omega.{arith}
-use lib.IntN.{ℤ, pos, negℤ, natAbs, _+ℤ_, _-ℤ_, _*ℤ_, *ℤ-zero, negℤ-+ℤ}
+use lib.IntN.{ℤ, pos, negℤ, natAbs, _+ℤ_, _-ℤ_, _*ℤ_, *ℤ-zero, negℤ-+ℤ, +ℤ-assoc, +ℤ-comm, +ℤ-idr}
 use Rattle.algebra.specs.Sums.{sumTo}
 use Rattle.algebra.proofs.Integer.{*ℤ-+ℤ, natAbs-+ℤ-le}
 use Rattle.algebra.proofs.Ring.{variable, _⊕_, ring}
@@ -47,3 +47,53 @@ sumTo-natAbs-le zero b f h = omega arith
 sumTo-natAbs-le (suc n) b f h =
     le-trans (natAbs-+ℤ-le (sumTo n f) (f n))
     (le-trans (add-le-add (sumTo-natAbs-le n b f (λ j l. h j (le-step l))) (h n (le-refl (suc n)))) (omega arith))
+
+-- the same summands
+pub sumTo-same : (n : ℕ) (f g : ℕ → ℤ) → ((j : ℕ) → j < n → f j ≡ g j) → sumTo n f ≡ sumTo n g
+unfolding sumTo
+sumTo-same zero f g same = refl
+sumTo-same (suc n) f g same =
+    ap₂ _+ℤ_ (sumTo-same n f g (λ j l. same j (le-step l))) (same n (le-refl (suc n)))
+
+-- a sum in two parts, and the part that is the first summand alone
+pub sumTo-parts : (n m : ℕ) (f : ℕ → ℤ) → sumTo (n + m) f ≡ sumTo n f +ℤ sumTo m (λ j. f (n + j))
+unfolding sumTo
+sumTo-parts n zero f = rw (add-zero n) (sym (+ℤ-idr (sumTo n f)))
+sumTo-parts n (suc m) f =
+    rw (add-suc n m) (ap (λ z. z +ℤ f (n + m)) (sumTo-parts n m f) ∙ +ℤ-assoc (sumTo n f) (sumTo m (λ j. f (n + j))) (f (n + m)))
+
+pub sumTo-first : (n : ℕ) (f : ℕ → ℤ) → sumTo (suc n) f ≡ f 0 +ℤ sumTo n (λ j. f (suc j))
+unfolding sumTo
+sumTo-first zero f = +ℤ-comm (pos 0) (f 0)
+sumTo-first (suc n) f =
+    ap (λ z. z +ℤ f (suc n)) (sumTo-first n f) ∙ +ℤ-assoc (f 0) (sumTo n (λ j. f (suc j))) (f (suc n))
+
+-- the last summand first
+pub sumTo-reversed : (n : ℕ) (f : ℕ → ℤ) → sumTo n (λ j. f (n - suc j)) ≡ sumTo n f
+unfolding sumTo
+sumTo-reversed zero f = refl
+sumTo-reversed (suc n) f =
+    sumTo-same (suc n) _ (λ j. f (n - j)) (λ j below. ap f (suc-sub-suc n j))
+    ∙ sumTo-first n (λ j. f (n - j))
+    ∙ ap₂ (λ a z. f a +ℤ z) (sub-zero n) (sumTo-reversed n f)
+    ∙ +ℤ-comm (f n) (sumTo n f)
+
+-- an odd number of summands: those at the same distance from the middle together, and the middle
+pub sumTo-pairs : (n : ℕ) (f : ℕ → ℤ) → sumTo (2 * n + 1) f ≡ sumTo n (λ j. f j +ℤ f (2 * n - j)) +ℤ f n
+sumTo-pairs n f =
+    let middle-first : 2 * n + 1 ≡ n + suc n = omega arith in
+    rw middle-first
+    (sumTo-parts n (suc n) f
+    ∙ ap (λ z. sumTo n f +ℤ z) (sumTo-first n (λ j. f (n + j)) ∙ ap₂ (λ a z. f a +ℤ z) (add-zero n) after-the-middle)
+    ∙ middle-last (sumTo n f) (f n) (sumTo n (λ j. f (2 * n - j)))
+    ∙ ap (λ z. z +ℤ f n) (sym (sumTo-+ℤ n f (λ j. f (2 * n - j)))))
+  where
+    after-the-middle : sumTo n (λ j. f (n + suc j)) ≡ sumTo n (λ j. f (2 * n - j))
+    after-the-middle =
+        sym (sumTo-reversed n (λ j. f (n + suc j)))
+        ∙ sumTo-same n _ _ (λ j below. let mirrored : n + suc (n - suc j) ≡ 2 * n - j = omega arith in ap f mirrored)
+
+    middle-last : (a b c : ℤ) → a +ℤ (b +ℤ c) ≡ (a +ℤ c) +ℤ b
+    middle-last a b c =
+        let x = variable 0 in let y = variable 1 in let z = variable 2 in
+        ring (x ⊕ (y ⊕ z)) ((x ⊕ z) ⊕ y) tt (a ∷ b ∷ c ∷ [])

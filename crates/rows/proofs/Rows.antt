@@ -9,4 +9,4 @@ use Rattle.rows.specs.Rows.{firstValues}
 
 pub firstValues-whole : (words : List ℕ) → length words ≡ orderCount → firstValues words ≡ words
 unfolding firstValues
-firstValues-whole words long = tabulate-whole words orderCount long
+firstValues-whole words long = tabulate-whole 0 words orderCount long

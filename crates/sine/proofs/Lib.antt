@@ -2,3 +2,4 @@
 pub mod Turn
 pub mod ExactSine
 pub mod Wave
+pub mod Symmetry

@@ -1,5 +1,9 @@
 -- The theorems of the spectrum.
 pub mod Bounds
+pub mod FoldedPlaces
+pub mod FoldedSums
+pub mod FoldedBounds
+pub mod FoldedLines
 pub mod Lines
 pub mod Distance
 pub mod Worked

@@ -8,14 +8,25 @@ use lib.ListN.{length}
 use Rattle.algebra.specs.Lists.{anyOf}
 use Rattle.refusals.specs.Answers.{firstFault, unlessRefused}
 use Rattle.sine.specs.Wave.{waveList}
-use Rattle.spectrum.specs.Line.{windowLength, windowAt, linesFrom}
+use Rattle.spectrum.specs.Line.{windowLength, windowAt, lineOf, linesFrom}
+use Rattle.spectrum.specs.Folding.{heldBy, foldedWindow}
 use Rattle.spectrum.specs.Spectrum.{outOfRange, windowChecks}
 
--- a window of 2,048 samples, all in range, and one turn of the table's sine
-pub record Prepared (window wave : List ℤ) : Type 0 where
-  pub whole : length window ≡ windowLength
+-- a window in range, folded, and one turn of the table's sine
+pub record Prepared (folded wave : List ℤ) : Type 0 where
+  pub window : List ℤ
   pub in-range : anyOf outOfRange window ≡ false
+  pub long : length folded ≡ windowLength
+  pub is-folded : heldBy folded ≡ foldedWindow window
   pub one-turn : wave ≡ waveList
+
+-- a line, and some lines, of the window that was folded
+abbrev pub LineOfFolded : List ℤ → ℕ → ℕ → Type 0
+LineOfFolded folded k line = (window : List ℤ) → heldBy folded ≡ foldedWindow window → line ≡ lineOf window k
+
+abbrev pub LinesOfFolded : List ℤ → ℕ → ℕ → List ℕ → Type 0
+LinesOfFolded folded first count lines =
+    (window : List ℤ) → heldBy folded ≡ foldedWindow window → lines ≡ linesFrom first count window
 
 -- the refusal of a call for lines, which has its own test for a buffer of the wrong length
 unfoldable pub windowRefusal : List ℤ → ℕ → Bool → ℕ

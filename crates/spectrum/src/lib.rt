@@ -1,6 +1,8 @@
 // From a window of a lent recording to its spectral lines: the 512 of its spectrum, or any part of its lines 0..1023.
-// window.rt has the window and the range of its samples, sums.rt one line. The wave of a turn is made once in a call and lent to the sums.
+// window.rt has the window and the range of its samples, folding.rt what is done to them before anything is multiplied, sums.rt one line.
+// The wave of a turn and the folded window are made once in a call and lent to the sums.
 // Nothing is written unless every check has passed.
+mod folding;
 mod sums;
 mod window;
 
@@ -10,9 +12,10 @@ ghost use mathlib.Core.Bool.{false};
 ghost use mathlib.Core.Path.{_≡_};
 ghost use Prim.Native.Nat.{_+_, _≤_};
 ghost use lib.ListN.{length};
-ghost use Rattle.spectrum.specs.Line.{lineLimit, linesFrom};
+ghost use Rattle.spectrum.specs.Line.{lineLimit};
 ghost use Rattle.spectrum.specs.Spectrum.{spectrumRefusal, spectrumExit, linesFromRefusal, linesFromExit};
-ghost use Rattle.spectrum.specs.Prepared.{Prepared, windowRefusal, windowExit};
+ghost use Rattle.spectrum.specs.Prepared.{Prepared, LinesOfFolded, windowRefusal, windowExit};
+use folding::fold_window;
 use refusals::NO_REFUSAL;
 use refusals::SAMPLE_OUT_OF_RANGE;
 use refusals::SHORT_WINDOW;
@@ -29,15 +32,15 @@ pub const LINE_COUNT: usize = 512;
 // Line numbers are below it.
 pub const LINE_LIMIT: usize = 1024;
 
-// Writes the window's lines from `first` on, as many as the buffer holds.
-fn fill_lines(window: &[i32], wave: &[i32; TURN], first: usize, lines: &mut [u64])
-    requires { ⌜ Prepared (now window) (now wave) ⌝ }
+// Writes a folded window's lines from `first` on, as many as the buffer holds.
+fn fill_lines(folded: &[i32], wave: &[i32; TURN], first: usize, lines: &mut [u64])
+    requires { ⌜ Prepared (now folded) (now wave) ⌝ }
     requires { ⌜ first + length (now lines) ≤ lineLimit ⌝ }
-    ensures { λ _. ⌜ now (lines .exit) ≡ linesFrom first (length (now (lines .entry))) (now (window .entry)) ⌝ }
+    ensures { λ _. ⌜ LinesOfFolded (now (folded .entry)) first (length (now (lines .entry))) (now (lines .exit)) ⌝ }
 {
     let mut i = 0;
     while i < lines.len() {
-        lines[i] = line(window, wave, first + i);
+        lines[i] = line(folded, wave, first + i);
         i += 1;
     }
 }
@@ -67,7 +70,9 @@ fn answer_lines(
     if refusal == NO_REFUSAL {
         let mut wave = [0; TURN];
         sine::fill_wave(&mut wave);
-        fill_lines(window, &wave, first, lines);
+        let mut folded = [0; WINDOW_LENGTH];
+        fold_window(window, &mut folded);
+        fill_lines(&folded, &wave, first, lines);
     }
     refusal
 }

@@ -1,25 +1,33 @@
-// One line of a window: the sums over its samples, rounded and squared.
+// One line of a folded window: the sums over the places where the line's foldings end, rounded and squared.
 // Samples in range keep every sum below 2^58, so 64 bits hold it whole, and nothing is rounded before the division by 2^29.
 use crate::WINDOW_LENGTH;
 use sine::TURN;
+ghost use mathlib.Core.Bool.{cond};
 ghost use mathlib.Core.Path.{_≡_};
-ghost use Prim.Native.Nat.{_+_, _^_, _<_, _≤_};
-ghost use lib.IntN.{natAbs, _+ℤ_, _*ℤ_};
+ghost use Prim.Native.Nat.{suc, _+_, _*_, _%_, _^_, _<_, _≤_};
+ghost use lib.Dec.{eqb};
+ghost use lib.IntN.{natAbs, negℤ, _+ℤ_, _*ℤ_};
 ghost use Rattle.algebra.specs.Integers.{square};
 ghost use Rattle.algebra.specs.Rounding.{nearestℤ};
-ghost use Rattle.sine.specs.Turn.{quarterTurn};
-ghost use Rattle.sine.specs.Wave.{tableSine};
-ghost use Rattle.spectrum.specs.Line.{lineLimit, lineSum, sumScale, lineOf};
-ghost use Rattle.spectrum.specs.Prepared.{Prepared};
+ghost use Rattle.sine.specs.Turn.{turn, quarterTurn};
+ghost use Rattle.spectrum.specs.Line.{lineLimit, sumScale};
+ghost use Rattle.spectrum.specs.Folding.{heldBy, placeSum, cosineOf, EndsAt, sineAhead};
+ghost use Rattle.spectrum.specs.Prepared.{Prepared, LineOfFolded};
 
-// What is added to an index for the sine.
-const SINE_PHASE: usize = 0;
 // What is added to an index for the cosine: a quarter turn.
 const COSINE_PHASE: usize = TURN / 4;
+// The first halving is at a quarter of the window.
+const FIRST_HALF: usize = WINDOW_LENGTH / 4;
 // The sums are divided by 2 to this power.
 const SUM_SHIFT: i64 = 29;
 // Half of what they are divided by.
 const HALF_SUM_SCALE: i64 = 1 << (SUM_SHIFT - 1);
+
+// Both sums of a line; the sine's but for its sign.
+struct Sums {
+    cosine: i64,
+    sine: i64,
+}
 
 // The sum with one more summand: sample times wave.
 fn accumulate(sum: i64, sample: i32, wave: i32) -> i64
@@ -29,20 +37,62 @@ fn accumulate(sum: i64, sample: i32, wave: i32) -> i64
     sum + (sample as i64) * (wave as i64)
 }
 
-// The sum over the window of sample j times the table's sine at jk + phase: one loop for the sine and for the cosine.
-fn line_sum(window: &[i32], wave: &[i32; TURN], k: usize, phase: usize) -> i64
-    requires { ⌜ Prepared (now window) (now wave) ⌝ }
+// The half length of the halving at which line k ends.
+fn ending_half(k: usize) -> usize
+    requires { ⌜ 0 < k ⌝ }
     requires { ⌜ k < lineLimit ⌝ }
-    requires { ⌜ phase ≤ quarterTurn ⌝ }
-    ensures { λ r. ⌜ r ≡ lineSum (λ i. tableSine (i + phase)) (now (window .entry)) k ⌝ }
+    ensures { λ r. ⌜ EndsAt k r ⌝ }
 {
-    let mut sum: i64 = 0;
-    let mut j = 0;
-    while j < WINDOW_LENGTH {
-        sum = accumulate(sum, window[j], wave[sine::turn_index(j * k + phase)]);
-        j += 1;
+    let mut half = FIRST_HALF;
+    while half * k % (TURN / 2) == 0 {
+        half /= 2;
     }
-    sum
+    half
+}
+
+// The sums over the line's places. One cosine serves both: at the sine's place it is the sine, but for its sign.
+fn folded_sums(folded: &[i32], wave: &[i32; TURN], k: usize, half: usize) -> Sums
+    requires { ⌜ Prepared (now folded) (now wave) ⌝ }
+    requires { ⌜ k < lineLimit ⌝ }
+    requires { ⌜ EndsAt k half ⌝ }
+    ensures { λ r. ⌜ r .cosine ≡ placeSum (suc half) half (heldBy (now (folded .entry))) (cosineOf k) ⌝ }
+    ensures { λ r. ⌜ r .sine ≡ placeSum (suc half) half (λ p. heldBy (now (folded .entry)) (p + sineAhead half)) (cosineOf k) ⌝ }
+{
+    let sine_ahead = WINDOW_LENGTH - 3 * half;
+    let mut cosine: i64 = 0;
+    let mut sine: i64 = 0;
+    let mut p = half + 1;
+    while p <= 2 * half {
+        let at = wave[sine::turn_index(p * k + COSINE_PHASE)];
+        cosine = accumulate(cosine, folded[p], at);
+        sine = accumulate(sine, folded[p + sine_ahead], at);
+        p += 1;
+    }
+    Sums {
+        cosine: cosine,
+        sine: sine,
+    }
+}
+
+// The sine's sum with its sign, by the angle at the line's last halving: a quarter turn, or three of them.
+fn signed_sine(sum: i64, angle: usize) -> i64
+    requires { ⌜ natAbs sum < 2 ^ 58 ⌝ }
+    ensures { λ r. ⌜ r ≡ cond (eqb (angle % turn) quarterTurn) sum (negℤ sum) ⌝ }
+{
+    if sine::turn_index(angle) == COSINE_PHASE {
+        sum
+    } else {
+        -sum
+    }
+}
+
+// The cosine's sum of line 0, which never ends: over the two places that are left, where the cosine is that of 0.
+fn sum_of_line_0(folded: &[i32], wave: &[i32; TURN]) -> i64
+    requires { ⌜ Prepared (now folded) (now wave) ⌝ }
+    ensures { λ r. ⌜ r ≡ placeSum 0 2 (heldBy (now (folded .entry))) (cosineOf 0) ⌝ }
+{
+    let at = wave[COSINE_PHASE];
+    accumulate(accumulate(0, folded[0], at), folded[1], at)
 }
 
 // The square of A or B: of the sum divided by 2^29, to the nearest, halves up.
@@ -54,12 +104,16 @@ fn rounded_square(sum: i64) -> u64
     (rounded * rounded) as u64
 }
 
-// Line k: the sum of the squares of A and B.
-pub(crate) fn line(window: &[i32], wave: &[i32; TURN], k: usize) -> u64
-    requires { ⌜ Prepared (now window) (now wave) ⌝ }
+// Line k of the window that was folded: the sum of the squares of A and B. Line 0 has no sine.
+pub(crate) fn line(folded: &[i32], wave: &[i32; TURN], k: usize) -> u64
+    requires { ⌜ Prepared (now folded) (now wave) ⌝ }
     requires { ⌜ k < lineLimit ⌝ }
-    ensures { λ r. ⌜ r ≡ lineOf (now (window .entry)) k ⌝ }
+    ensures { λ r. ⌜ LineOfFolded (now (folded .entry)) k r ⌝ }
 {
-    rounded_square(line_sum(window, wave, k, COSINE_PHASE))
-        + rounded_square(line_sum(window, wave, k, SINE_PHASE))
+    if k == 0 {
+        return rounded_square(sum_of_line_0(folded, wave));
+    }
+    let half = ending_half(k);
+    let sums = folded_sums(folded, wave, k, half);
+    rounded_square(sums.cosine) + rounded_square(signed_sine(sums.sine, half * k))
 }

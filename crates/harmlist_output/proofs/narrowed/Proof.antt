@@ -39,7 +39,7 @@ returns c =
     let end : c .before .loop .i ≡ orderCount = omega arith in
     let long : length values ≡ orderCount = search needs in
     filled-whole orderCount (λ j. getD values j 0) (replicate orderCount 0) _ (rw end at (c .before .loop .inv .1)) refl
-    ∙ tabulate-whole values orderCount long
+    ∙ tabulate-whole 0 values orderCount long
 
 pub narrowed-spec : {M : Type 1} → statement M
 narrowed-spec =

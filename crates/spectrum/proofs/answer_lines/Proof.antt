@@ -2,7 +2,7 @@
 use borrow.Author.Needs.{needs}
 use mathlib.Core.Bool.{Bool, cond}
 use mathlib.Core.List.{List}
-use mathlib.Core.Path.{_≡_, sym, _∙_}
+use mathlib.Core.Path.{_≡_, refl, sym, ap, _∙_}
 use Prim.Native.Nat.{ℕ, _-_, min}
 use native.Mathlib.Omega.{arith}
 use lib.Dec.{ltb}
@@ -12,10 +12,11 @@ use Rattle.algebra.specs.Lists.{anyOf}
 use Rattle.algebra.proofs.Tests.{ltb-same}
 use Rattle.refusals.specs.Numbers.{noRefusal, shortWindow, wrongLineCount, sampleOutOfRange}
 use Rattle.refusals.proofs.Answers.{unlessRefused-accepted, unlessRefused-refused}
-use Rattle.spectrum.specs.Line.{windowLength, windowAt}
+use Rattle.spectrum.specs.Line.{windowLength, windowAt, linesFrom}
 use Rattle.spectrum.specs.Spectrum.{outOfRange}
+use Rattle.spectrum.specs.Folding.{heldBy, foldedWindow}
 use Rattle.spectrum.specs.Prepared.{windowRefusal, windowExit}
-use Rattle.spectrum.proofs.Accepted.{window-accepted}
+use Rattle.spectrum.proofs.Accepted.{Accepted, window-accepted}
 use Rattle.spectrum.proofs.answer_lines.Statement.{statement}
 use Rattle.spectrum.proofs.answer_lines.Tie as tie
 
@@ -69,28 +70,56 @@ passed : (c : tie.Then1) →
     windowRefusal (a .recording .now) (a .start) (a .wrong-count) ≡ noRefusal
 passed c = sym (the-refusal (c .before)) ∙ c .if1 .taken
 
+-- the call for lines, and the window that it was lent, where nothing is refused
+abbrev then-of : tie.After-folded → tie.Then1
+then-of c = c .before .before .before
+
+is-window : (c : tie.Then1) →
+    let start = start-of (c .before) in
+    c .before .before .before .before .before .window-at .result .now ≡ windowAt (start .args .recording .now) (start .args .start)
+is-window c = c .before .before .before .before .before .window-at .ensures
+
+call : (c : tie.Then1) →
+    let start = start-of (c .before) in
+    Accepted (start .args .recording .now) (start .args .start) (start .args .wrong-count)
+call c =
+    let a = start-of (c .before) .args in
+    window-accepted (a .recording .now) (a .start) (a .wrong-count) (passed c)
+
+fold-window-requires : tie.Need-fold-window-requires
+fold-window-requires c κs =
+    let e = then-of c in
+    (rw (is-window e) (call e .whole-window), (refl, rw (is-window e) (call e .in-range)))
+
+-- the list that the window was folded to
+the-folded : (c : tie.After-fold-window) → heldBy (c .fold-window .last .1 .0) ≡ foldedWindow (then-of (c .before) .before .before .before .before .before .window-at .result .now)
+the-folded c = c .fold-window .ensures
+
 fill-lines-requires : tie.Need-fill-lines-requires
 fill-lines-requires c κs =
-    let e = c .before .before .before .before in
-    let a = start-of (e .before) .args in
-    let call = window-accepted (a .recording .now) (a .start) (a .wrong-count) (passed e) in
-    let is-window = e .before .before .before .before .before .window-at .ensures in (
+    let folded = c .before .before .before .before in
+    let e = then-of (folded .before) in (
       record {
-        whole = rw is-window (call .whole-window);
-        in-range = rw is-window (call .in-range);
-        one-turn = c .before .before .fill-wave .ensures;
+        window = e .before .before .before .before .before .window-at .result .now;
+        in-range = rw (is-window e) (call e .in-range);
+        long = folded .fold-window .kept .1 .0;
+        is-folded = the-folded folded;
+        one-turn = folded .before .before .fill-wave .ensures;
       },
-      start-of (e .before) .pre (call .right-count),
+      start-of (e .before) .pre (call e .right-count),
     )
 
 returns : tie.Need-returns
 unfolding windowExit
 returns c =
     let called = c .before .before in
-    let e = called .before .before .before .before .before in
-    let is-window = e .before .before .before .before .before .window-at .ensures in (
+    let folded = called .before .before .before .before .before in
+    let e = then-of (folded .before) in
+    let a = start-of (e .before) .args in (
       the-refusal (e .before),
-      (rw is-window at (called .fill-lines .ensures)) ∙ sym (unlessRefused-accepted _ _ _ (passed e)),
+      called .fill-lines .ensures _ (the-folded folded)
+          ∙ ap (linesFrom (a .first) (length (a .lines .now))) (is-window e)
+          ∙ sym (unlessRefused-accepted _ _ _ (passed e)),
     )
 
 returns-2 : tie.Need-returns-2
@@ -109,6 +138,9 @@ answer-lines-spec =
     (λ c κs. tt)
     (λ c κs. tt)
     (λ c κs. tt)
+    (λ c. search needs)
+    fold-window-requires
+    (λ c. search needs)
     fill-lines-requires
     (λ c. search needs)
     returns

@@ -33,7 +33,7 @@ returns c =
     let a = at .before .args in
     let end : at .loop .i ≡ length (a .to .now) = omega arith in
     filled-whole (length (a .to .now)) _ (a .to .now) _ (rw end at (at .loop .inv .2)) refl ∙
-    tabulate-whole (a .from .now) (length (a .to .now)) (at .before .pre)
+    tabulate-whole 0 (a .from .now) (length (a .to .now)) (at .before .pre)
 
 pub copy-words-spec : {M : Type 1} → statement M
 copy-words-spec =

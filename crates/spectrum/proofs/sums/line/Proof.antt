@@ -1,67 +1,159 @@
--- `spectrum::sums::line` meets its contract. The phase of a quarter turn gives the cosine by its definition, and the phase 0 the sine.
--- The sum of a window in range is small enough to be rounded and squared, and so is the sum of the squares.
+-- `spectrum::sums::line` meets its contract. The sums over a folded window are those of document 01's line, so they are small enough to be rounded and squared, and so is the sum of the squares.
 use borrow.Author.Needs.{needs}
-use mathlib.Core.Bool.{false}
+use mathlib.Core.Bool.{cond}
 use mathlib.Core.List.{List}
-use mathlib.Core.Path.{_≡_, ap, ap₂, _∙_, fun-ext}
-use Prim.Native.Nat.{ℕ, _+_, _^_, _<_}
-use native.Mathlib.Nat.{add-zero}
+use mathlib.Core.Path.{_≡_, refl, sym, ap, ap₂, _∙_}
+use Prim.Native.Nat.{ℕ, suc, _+_, _*_, _%_, _^_, _<_}
+use native.Mathlib.Nat.{mul-le-mul, le-of-lt}
 use native.Mathlib.Omega.{arith}
-use lib.IntN.{ℤ, natAbs}
+use lib.Dec.{eqb}
+use lib.IntN.{ℤ, natAbs, negℤ}
 use mir.Syntax.{w64}
-use mir.Val.{SFits, toZ, ofZ}
+use mir.Val.{toZ, ofZ}
 use mir.ValLaws.{toZ-ofZ}
 use Rattle.algebra.specs.Integers.{square}
-use Rattle.algebra.specs.Lists.{anyOf}
 use Rattle.algebra.specs.Rounding.{nearestℤ}
-use Rattle.sine.specs.Turn.{quarterTurn}
+use Rattle.algebra.proofs.Signed.{sfits-natAbs}
+use Rattle.sine.specs.Turn.{turn, quarterTurn}
 use Rattle.sine.specs.Wave.{tableSine, tableCosine}
+use Rattle.sine.proofs.Wave.{tableSine-le, tableCosine-le}
 use Rattle.spectrum.specs.Line.{lineSum, sumScale, roundedSum, lineOf}
-use Rattle.spectrum.specs.Spectrum.{outOfRange}
-use Rattle.spectrum.proofs.Bounds.{shiftedSine, shiftedSine-le, lineSum-le, line-le}
+use Rattle.spectrum.specs.Folding.{heldBy, foldedWindow, placeSum, cosineOf, EndsAt}
+use Rattle.spectrum.proofs.Bounds.{lineSum-le, line-le}
+use Rattle.spectrum.proofs.FoldedLines.{ahead, half-le, sine-sum-small, cosine-is, sine-is, line-0-sum, line-0-is}
 use Rattle.spectrum.proofs.sums.line.Statement.{statement}
 use Rattle.spectrum.proofs.sums.line.Tie as tie
 
-module _ (window : List ℤ) (k phase : ℕ) (sum : ℤ) (fits : SFits w64 sum) (e : sum ≡ lineSum (shiftedSine phase) window k) where
-  -- what the machine reads back of the sum
-  the-sum : toZ w64 (ofZ w64 sum) ≡ lineSum (shiftedSine phase) window k
-  the-sum = toZ-ofZ w64 sum fits ∙ e
+-- a number that is a sum below 2^58 is read back from its bits as it was
+read-back : (number sum : ℤ) → number ≡ sum → natAbs sum < 2 ^ 58 → toZ w64 (ofZ w64 number) ≡ number
+read-back number sum e small = toZ-ofZ w64 number (sfits-natAbs w64 number (rw e (omega (arith, small))))
 
-  small : anyOf outOfRange window ≡ false → natAbs (toZ w64 (ofZ w64 sum)) < 2 ^ 58
-  small in-range = rw the-sum (lineSum-le window in-range (shiftedSine phase) (shiftedSine-le phase) k)
+-- the square of a rounded sum
+squared : (wave : ℕ → ℤ) (window : List ℤ) (k result : ℕ) (number : ℤ) → result ≡ square (nearestℤ number sumScale) → number ≡ lineSum wave window k → result ≡ square (roundedSum wave window k)
+unfolding roundedSum
+squared wave window k result number r e = r ∙ ap (λ z. square (nearestℤ z sumScale)) e
 
-  the-square :
-      (result : ℕ) →
-      result ≡ square (nearestℤ (toZ w64 (ofZ w64 sum)) sumScale) →
-      result ≡ square (roundedSum (shiftedSine phase) window k)
-  unfolding roundedSum
-  the-square result r = r ∙ ap (λ z. square (nearestℤ z sumScale)) the-sum
+-- ---- line 0
+
+module _ (c : tie.After-sum-of-line-0) where
+  abbrev entry : tie.Start
+  entry = c .before .before
+
+  abbrev sum-0 : ℤ
+  sum-0 = c .sum-of-line-0 .result
+
+  sum-0-is : (window : List ℤ) → heldBy (entry .args .folded .now) ≡ foldedWindow window → sum-0 ≡ lineSum tableCosine window 0
+  sum-0-is window is-folded = c .sum-of-line-0 .ensures ∙ line-0-sum (entry .args .folded .now) window is-folded
+
+  source-0-is : sum-0 ≡ lineSum tableCosine (entry .pre .0 .window) 0
+  source-0-is = sum-0-is (entry .pre .0 .window) (entry .pre .0 .is-folded)
+
+  source-0-small : natAbs (lineSum tableCosine (entry .pre .0 .window) 0) < 2 ^ 58
+  source-0-small = lineSum-le (entry .pre .0 .window) (entry .pre .0 .in-range) tableCosine tableCosine-le 0
+
+  read-0 : toZ w64 (ofZ w64 sum-0) ≡ sum-0
+  read-0 = read-back sum-0 _ source-0-is source-0-small
 
 rounded-square-requires : tie.Need-rounded-square-requires
-rounded-square-requires c κs =
-    let a = c .before .args in
-    small (a .window .now) (a .k) quarterTurn (c .line-sum .result) (record { sfits = c .line-sum .ok }) (c .line-sum .ensures) (c .before .pre .0 .in-range)
-
-rounded-square-requires-2 : tie.Need-rounded-square-requires-2
-rounded-square-requires-2 c κs =
-    let a = c .before .before .before .args in
-    small (a .window .now) (a .k) 0 (c .line-sum2 .result) (record { sfits = c .line-sum2 .ok }) (c .line-sum2 .ensures) (c .before .before .before .pre .0 .in-range)
+rounded-square-requires c κs = rw (read-0 c, source-0-is c) (source-0-small c)
 
 returns : tie.Need-returns
-unfolding lineOf tableCosine
-returns c =
-    let cosine = c .before .before .before in
-    let sine = c .before in
-    let a = cosine .before .args in
+returns c window is-folded =
+    let taken = c .before .before in
+    squared tableCosine window 0 (c .rounded-square .result) _ (c .rounded-square .ensures) (read-0 (c .before) ∙ sum-0-is (c .before) window is-folded)
+    ∙ line-0-is window
+    ∙ ap (lineOf window) (sym (taken .if1 .taken))
+
+-- ---- every other line
+
+module _ (c : tie.After-folded-sums) where
+  abbrev start : tie.Start
+  start = c .before .before .before
+
+  abbrev folded : List ℤ
+  folded = start .args .folded .now
+
+  abbrev k : ℕ
+  k = start .args .k
+
+  abbrev half : ℕ
+  half = c .before .ending-half .result
+
+  ends : EndsAt k half
+  ends = c .before .ending-half .ensures
+
+  abbrev cosine : ℤ
+  cosine = c .folded-sums .result .cosine
+
+  cosine-sum-is : (window : List ℤ) → heldBy folded ≡ foldedWindow window → cosine ≡ lineSum tableCosine window k
+  cosine-sum-is window is-folded = c .folded-sums .ensures .0 ∙ cosine-is folded window is-folded k half ends
+
+  cosine-small : natAbs cosine < 2 ^ 58
+  cosine-small =
+      rw (cosine-sum-is (start .pre .0 .window) (start .pre .0 .is-folded))
+      (lineSum-le (start .pre .0 .window) (start .pre .0 .in-range) tableCosine tableCosine-le k)
+
+  cosine-read : toZ w64 (ofZ w64 cosine) ≡ cosine
+  cosine-read = read-back cosine cosine refl cosine-small
+
+  abbrev aheadSum : ℤ
+  aheadSum = placeSum (suc half) half (ahead folded half) (cosineOf k)
+
+  ahead-small : natAbs aheadSum < 2 ^ 58
+  ahead-small = sine-sum-small folded (start .args .wave .now) (start .pre .0) k half ends
+
+  ahead-read : toZ w64 (ofZ w64 (c .folded-sums .result .sine)) ≡ aheadSum
+  ahead-read = read-back (c .folded-sums .result .sine) aheadSum (c .folded-sums .ensures .1) ahead-small ∙ c .folded-sums .ensures .1
+
+rounded-square-requires-2 : tie.Need-rounded-square-requires-2
+rounded-square-requires-2 c κs = rw (cosine-read (c .before)) (cosine-small (c .before))
+
+mul-signed-sine : tie.Need-mul-signed-sine
+mul-signed-sine c =
+    let sums = c .before .before in
+    let most = mul-le-mul (half-le (k sums) (half sums) (ends sums)) (le-of-lt (start sums .pre .1)) in
+    record { fits = omega (arith, most) }
+
+signed-sine-requires : tie.Need-signed-sine-requires
+signed-sine-requires c κs = rw (ahead-read (c .before .before .before)) (ahead-small (c .before .before .before))
+
+module _ (c : tie.After-signed-sine) where
+  abbrev sums : tie.After-folded-sums
+  sums = c .before .before .before .before
+
+  abbrev sine : ℤ
+  sine = c .signed-sine .result
+
+  sine-sum-is : (window : List ℤ) → heldBy (folded sums) ≡ foldedWindow window → sine ≡ lineSum tableSine window (k sums)
+  sine-sum-is window is-folded =
+      c .signed-sine .ensures
+      ∙ ap (λ z. cond (eqb ((half sums * k sums) % turn) quarterTurn) z (negℤ z)) (ahead-read sums)
+      ∙ sine-is (folded sums) window is-folded (k sums) (half sums) (ends sums)
+
+  sine-small : natAbs sine < 2 ^ 58
+  sine-small =
+      rw (sine-sum-is (start sums .pre .0 .window) (start sums .pre .0 .is-folded))
+      (lineSum-le (start sums .pre .0 .window) (start sums .pre .0 .in-range) tableSine tableSine-le (k sums))
+
+  sine-read : toZ w64 (ofZ w64 sine) ≡ sine
+  sine-read = read-back sine sine refl sine-small
+
+rounded-square-requires-3 : tie.Need-rounded-square-requires-3
+rounded-square-requires-3 c κs = rw (sine-read c) (sine-small c)
+
+returns-2 : tie.Need-returns-2
+unfolding lineOf
+returns-2 c window is-folded =
+    let signed = c .before in
+    let cosine-squared = signed .before .before in
     ap₂ _+_
-    (the-square (a .window .now) (a .k) quarterTurn (cosine .line-sum .result) (record { sfits = cosine .line-sum .ok }) (cosine .line-sum .ensures) (c .before .before .rounded-square .result) (c .before .before .rounded-square .ensures))
-    (the-square (a .window .now) (a .k) 0 (sine .line-sum2 .result) (record { sfits = sine .line-sum2 .ok }) (sine .line-sum2 .ensures) (c .rounded-square2 .result) (c .rounded-square2 .ensures)
-    ∙ ap (λ wave. square (roundedSum wave (a .window .now) (a .k))) (fun-ext (λ i. ap tableSine (add-zero i))))
+    (squared tableCosine window (k (sums signed)) (cosine-squared .rounded-square2 .result) _ (cosine-squared .rounded-square2 .ensures) (cosine-read (sums signed) ∙ cosine-sum-is (sums signed) window is-folded))
+    (squared tableSine window (k (sums signed)) (c .rounded-square3 .result) _ (c .rounded-square3 .ensures) (sine-read signed ∙ sine-sum-is signed window is-folded))
 
 add-result : tie.Need-add-result
 add-result c =
-    let start = c .before .before .before .before in
-    record { fits = rw (returns c) (omega (arith, line-le (start .args .window .now) (start .pre .0 .in-range) (start .args .k))) }
+    let entry = start (sums (c .before)) in
+    record { fits = rw (returns-2 c (entry .pre .0 .window) (entry .pre .0 .is-folded)) (omega (arith, line-le (entry .pre .0 .window) (entry .pre .0 .in-range) (entry .args .k))) }
 
 pub line-spec : {M : Type 1} → statement M
 line-spec =
@@ -69,7 +161,12 @@ line-spec =
     (tie.spec
     (λ c κs. search needs)
     rounded-square-requires
+    returns
+    (λ c κs. search needs)
     (λ c κs. search needs)
     rounded-square-requires-2
+    mul-signed-sine
+    signed-sine-requires
+    rounded-square-requires-3
     add-result
-    returns)
+    returns-2)

@@ -1,0 +1,209 @@
+-- Folding changes no sum (card 13): the laws of one folding between any two places, over any half length.
+use mathlib.Core.Bool.{Bool, true, false, cond, _||_}
+use mathlib.Core.List.{List, [], _∷_, map}
+use mathlib.Core.Logic.{⊎-elim}
+use mathlib.Core.Path.{_≡_, refl, sym, ap, ap₂, _∙_, fun-ext}
+use Prim.Native.Nat.{ℕ, zero, suc, _+_, _-_, _*_, _^_, _≤_, _<_}
+use native.Mathlib.Numerals.{add-one}
+use native.Mathlib.Nat.{le-refl, add-zero, add-suc, add-comm, eq-or-lt-of-le, le-of-suc-le-suc}
+use native.Mathlib.Decide.{decLt}
+use native.Mathlib.Omega.{arith}
+use borrow.Author.Tests.{lt-ltb, le-ltb}
+use lib.Dec.{ltb}
+use lib.IntN.{ℤ, pos, negℤ, natAbs, _+ℤ_, _-ℤ_, _*ℤ_, +ℤ-comm}
+use lib.ListN.{length, set, length-set}
+use lib.Seq.{getD-set-same, getD-set-other}
+use Rattle.algebra.specs.Sums.{sumTo}
+use Rattle.algebra.proofs.Integer.{+ℤ-*ℤ}
+use Rattle.algebra.proofs.Ring.{variable, constant, _⊕_, _⊖_, _⊗_, ⊝_, ring}
+use Rattle.algebra.proofs.SumTo.{sumTo-same, sumTo-first, sumTo-reversed, sumTo-pairs}
+use Rattle.spectrum.specs.Folding.{heldBy, folded, placeSum}
+
+-- ---- what a place holds
+
+or-true : (b : Bool) → (b || true) ≡ true
+or-true true = refl
+or-true false = refl
+
+either : (b : Bool) (z : ℤ) → cond b z z ≡ z
+either true z = refl
+either false z = refl
+
+module _ (first last : ℕ) (f : ℕ → ℤ) (p : ℕ) where
+  pub folded-before : p < first → folded first last f p ≡ f p
+  unfolding folded
+  folded-before h = rw (lt-ltb p first h)
+
+  pub folded-after : last < p → folded first last f p ≡ f p
+  unfolding folded
+  folded-after h = rw (lt-ltb last p h, or-true (ltb p first))
+
+  pub folded-low : first ≤ p → p + p < first + last → folded first last f p ≡ f p +ℤ f (first + last - p)
+  unfolding folded
+  folded-low above low =
+      rw (le-ltb p first above, le-ltb last p (omega arith), lt-ltb (p + p) (first + last) low)
+
+  pub folded-middle : p + p ≡ first + last → folded first last f p ≡ f p
+  unfolding folded
+  folded-middle e =
+      rw (le-ltb (p + p) (first + last) (omega arith), le-ltb (first + last) (p + p) (omega arith)) (either (ltb p first || ltb last p) (f p))
+
+  pub folded-high : p ≤ last → first + last < p + p → folded first last f p ≡ f p -ℤ f (first + last - p)
+  unfolding folded
+  folded-high below high =
+      rw (le-ltb p first (omega arith), le-ltb last p below, le-ltb (p + p) (first + last) (omega arith), lt-ltb (first + last) (p + p) high)
+
+-- worked: the squares of 0..8, folded between 1 and 7
+folded-worked :
+    map (folded 1 7 (λ p. pos (p * p))) (0 ∷ 1 ∷ 2 ∷ 3 ∷ 4 ∷ 5 ∷ 6 ∷ 7 ∷ 8 ∷ [])
+    ≡ pos 0 ∷ pos 50 ∷ pos 40 ∷ pos 34 ∷ pos 16 ∷ pos 16 ∷ pos 32 ∷ pos 48 ∷ pos 64 ∷ []
+unfolding folded
+folded-worked = refl
+
+-- ---- a list that is folded from both ends, as a loop meets it: done before low and after high
+
+pub record Partly (first last : ℕ) (f : ℕ → ℤ) (low high : ℕ) (g : ℕ → ℤ) : Type 0 where
+  pub ends : low + high ≡ first + last
+  pub from-first : first ≤ low
+  pub to-last : high ≤ last
+  pub before : (p : ℕ) → p < low → g p ≡ folded first last f p
+  pub between : (p : ℕ) → low ≤ p → p ≤ high → g p ≡ f p
+  pub after : (p : ℕ) → high < p → g p ≡ folded first last f p
+
+pub partly-none : (first last : ℕ) (f : ℕ → ℤ) → Partly first last f first last f
+partly-none first last f = record {
+  ends = refl;
+  from-first = le-refl first;
+  to-last = le-refl last;
+  before = λ p h. sym (folded-before first last f p h);
+  between = λ p g h. refl;
+  after = λ p h. sym (folded-after first last f p h);
+}
+
+module _ (first last : ℕ) (f : ℕ → ℤ) (low high : ℕ) where
+  -- one pair more
+  pub partly-more : (list : List ℤ) (sum difference : ℤ) → low < high → high < length list → Partly first last f low high (heldBy list) →
+      sum ≡ f low +ℤ f high → difference ≡ f high -ℤ f low →
+      Partly first last f (low + 1) (high - 1) (heldBy (set (set list low sum) high difference))
+  partly-more list sum difference apart room so-far s d = record {
+    ends = omega (arith, so-far .ends);
+    from-first = omega (arith, so-far .from-first);
+    to-last = omega (arith, so-far .to-last);
+    before = λ p h.
+        ⊎-elim
+        (λ (here : p ≡ low). rw here (at-low ∙ s ∙ sym (folded-low first last f low (so-far .from-first) (omega (arith, so-far .ends)) ∙ ap (λ q. f low +ℤ f q) (mirror low high (so-far .ends)))))
+        (λ (l : p < low). other p (λ e. omega arith) (λ e. omega arith) ∙ so-far .before p l)
+        (eq-or-lt-of-le (le-of-suc-le-suc (rw add-one at h)));
+    between = λ p g h. other p (λ e. omega arith) (λ e. omega arith) ∙ so-far .between p (omega arith) (omega arith);
+    after = λ p h.
+        ⊎-elim
+        (λ (here : high ≡ p). rw (← here) (at-high ∙ d ∙ sym (folded-high first last f high (so-far .to-last) (omega (arith, so-far .ends)) ∙ ap (λ q. f high -ℤ f q) (mirror high low (add-comm high low ∙ so-far .ends)))))
+        (λ (l : high < p). other p (λ e. omega arith) (λ e. omega arith) ∙ so-far .after p l)
+        (eq-or-lt-of-le (omega arith));
+  }
+    where
+      at-high : heldBy (set (set list low sum) high difference) high ≡ difference
+      at-high = getD-set-same (set list low sum) high difference (pos 0) (rw (length-set list low sum) room)
+
+      at-low : heldBy (set (set list low sum) high difference) low ≡ sum
+      at-low =
+          getD-set-other (set list low sum) high low difference (pos 0) (λ e. omega arith)
+          ∙ getD-set-same list low sum (pos 0) (omega arith)
+
+      other : (p : ℕ) → (p ≡ low → ⊥) → (p ≡ high → ⊥) → heldBy (set (set list low sum) high difference) p ≡ heldBy list p
+      other p not-low not-high =
+          getD-set-other (set list low sum) high p difference (pos 0) not-high
+          ∙ getD-set-other list low p sum (pos 0) not-low
+
+      mirror : (a b : ℕ) → a + b ≡ first + last → first + last - a ≡ b
+      mirror a b e = omega arith
+
+  -- all of them
+  pub partly-all : (g : ℕ → ℤ) → high ≤ low → Partly first last f low high g → g ≡ folded first last f
+  partly-all g met so-far = fun-ext by-place
+    where
+      middle : (p : ℕ) → low ≤ p → p ≤ high → g p ≡ folded first last f p
+      middle p from to = so-far .between p from to ∙ sym (folded-middle first last f p (omega (arith, so-far .ends)))
+
+      by-place : (p : ℕ) → g p ≡ folded first last f p
+      by-place p = elim (decLt p low) [
+        | yes h ↦ so-far .before p h
+        | no h ↦ elim (decLt high p) [ yes l ↦ so-far .after p l | no l ↦ middle p (omega arith) (omega arith) ]
+      ]
+
+-- ---- sums over places
+
+module _ (first : ℕ) (wave : ℕ → ℤ) where
+  pub placeSum-same : (count : ℕ) (f g : ℕ → ℤ) → ((i : ℕ) → i < count → f (first + i) ≡ g (first + i)) → placeSum first count f wave ≡ placeSum first count g wave
+  unfolding placeSum
+  placeSum-same count f g same = sumTo-same count _ _ (λ i below. ap (λ z. z *ℤ wave (first + i)) (same i below))
+
+  -- up to a place, and one place more
+  pub placeSum-more : (f : ℕ → ℤ) (p : ℕ) → first ≤ p → placeSum first (p - first) f wave +ℤ f p *ℤ wave p ≡ placeSum first (p + 1 - first) f wave
+  unfolding placeSum sumTo
+  placeSum-more f p from =
+      let place : first + (p - first) ≡ p = omega arith in
+      let count : p + 1 - first ≡ suc (p - first) = omega arith in
+      rw count (ap (λ q. placeSum first (p - first) f wave +ℤ f q *ℤ wave q) (sym place))
+
+  -- the first place alone
+  pub placeSum-first : (count : ℕ) (f : ℕ → ℤ) → placeSum first (suc count) f wave ≡ f first *ℤ wave first +ℤ placeSum (suc first) count f wave
+  unfolding placeSum
+  placeSum-first count f =
+      sumTo-first count _
+      ∙ ap₂ _+ℤ_
+      (ap (λ p. f p *ℤ wave p) (add-zero first))
+      (sumTo-same count _ _ (λ i below. let next : first + suc i ≡ suc first + i = omega arith in ap (λ p. f p *ℤ wave p) next))
+
+-- ---- the laws: between first and last, n places on either side of the middle, a wave that is the same at mirrored places leaves the lower half, and one that is opposite the upper half, each with the middle
+
+module _ (first n middle last : ℕ) (is-middle : middle ≡ first + n) (is-last : last ≡ first + 2 * n) (f wave : ℕ → ℤ) where
+  -- a pair's two summands
+  abbrev pub pair : ℕ → ℤ
+  pair i = f (first + i) *ℤ wave (first + i) +ℤ f (last - i) *ℤ wave (last - i)
+
+  pub placeSum-pairs : placeSum first (2 * n + 1) f wave ≡ sumTo n pair +ℤ f middle *ℤ wave middle
+  unfolding placeSum
+  placeSum-pairs =
+      sumTo-pairs n (λ i. f (first + i) *ℤ wave (first + i))
+      ∙ ap₂ _+ℤ_
+      (sumTo-same n _ pair (λ i below.
+      let mirrored : first + (2 * n - i) ≡ last - i = omega arith in
+      ap (λ p. f (first + i) *ℤ wave (first + i) +ℤ f p *ℤ wave p) mirrored))
+      (ap (λ p. f p *ℤ wave p) (sym is-middle))
+
+  kept : folded first last f middle ≡ f middle
+  kept = folded-middle first last f middle (omega arith)
+
+  pub fold-same : ((i : ℕ) → i < n → wave (last - i) ≡ wave (first + i)) → placeSum first (2 * n + 1) f wave ≡ placeSum first (suc n) (folded first last f) wave
+  unfolding placeSum sumTo
+  fold-same same =
+      placeSum-pairs
+      ∙ ap₂ _+ℤ_
+      (sumTo-same n pair _ (λ i below.
+      let mirrored : first + last - (first + i) ≡ last - i = omega arith in
+      let low = folded-low first last f (first + i) (omega arith) (omega arith) in
+      rw (low, mirrored, same i below) (sym (+ℤ-*ℤ (f (first + i)) (f (last - i)) (wave (first + i))))))
+      (ap (λ z. z *ℤ wave middle) (sym kept) ∙ ap (λ p. folded first last f p *ℤ wave p) is-middle)
+
+  pub fold-opposite : ((i : ℕ) → i < n → wave (last - i) ≡ negℤ (wave (first + i))) → placeSum first (2 * n + 1) f wave ≡ placeSum middle (suc n) (folded first last f) wave
+  unfolding placeSum
+  fold-opposite opposite =
+      placeSum-pairs
+      ∙ +ℤ-comm (sumTo n pair) (f middle *ℤ wave middle)
+      ∙ ap₂ _+ℤ_ (ap (λ z. z *ℤ wave middle) (sym kept)) upper
+      ∙ sym (placeSum-first middle wave n (folded first last f))
+    where
+      taken-away : (a b w : ℤ) → a *ℤ w +ℤ b *ℤ negℤ w ≡ (b -ℤ a) *ℤ negℤ w
+      taken-away a b w =
+          let x = variable 0 in let y = variable 1 in let z = variable 2 in
+          ring (x ⊗ z ⊕ y ⊗ ⊝ z) ((y ⊖ x) ⊗ ⊝ z) tt (a ∷ b ∷ w ∷ [])
+
+      upper : sumTo n pair ≡ placeSum (suc middle) n (folded first last f) wave
+      upper =
+          sumTo-same n pair _ (λ i below.
+          let place : suc middle + (n - suc i) ≡ last - i = omega arith in
+          let mirrored : first + last - (last - i) ≡ first + i = omega arith in
+          let high = folded-high first last f (last - i) (omega arith) (omega arith) in
+          rw (place, high, mirrored, opposite i below) (taken-away (f (first + i)) (f (last - i)) (wave (first + i))))
+          ∙ sumTo-reversed n (λ i. folded first last f (suc middle + i) *ℤ wave (suc middle + i))

@@ -1,0 +1,91 @@
+-- Folding a window before anything is multiplied (card 13). Where the wave at two places of a list is the same, the sum of what they hold stands for both; where it is opposite, the difference does.
+-- No public contract cites it: proofs/FoldedSums.antt shows that the sums over what is left are document 01's.
+use mathlib.Core.Bool.{cond, _||_}
+use mathlib.Core.List.{List}
+use mathlib.Core.Path.{_≡_}
+use Prim.Native.Nat.{ℕ, zero, suc, _+_, _-_, _*_, _%_, _^_, _≤_}
+use lib.Dec.{ltb}
+use lib.IntN.{ℤ, pos, natAbs, _+ℤ_, _-ℤ_, _*ℤ_}
+use lib.ListN.{getD}
+use Rattle.algebra.specs.Sums.{sumTo}
+use Rattle.sine.specs.Turn.{halfTurn, quarterTurn}
+use Rattle.sine.specs.Wave.{tableSine, tableCosine}
+use Rattle.spectrum.specs.Line.{windowLength}
+
+-- what a list holds at a place, and 0 past its end
+abbrev pub heldBy : List ℤ → ℕ → ℤ
+heldBy list p = getD list p (pos 0)
+
+-- no number above the bound
+abbrev pub Within : ℕ → (ℕ → ℤ) → Type 0
+Within bound f = (p : ℕ) → natAbs (f p) ≤ bound
+
+-- ---- card 13's pairs: sample j with sample 2048 − j, for j = 1..1023
+
+abbrev pub pairSum : List ℤ → ℕ → ℤ
+pairSum window j = heldBy window j +ℤ heldBy window (windowLength - j)
+
+abbrev pub pairDifference : List ℤ → ℕ → ℤ
+pairDifference window j = heldBy window j -ℤ heldBy window (windowLength - j)
+
+-- the cosine's whole sum over the pairs' sums, with the samples 0 and 1024 alone
+unfoldable pub pairedCosineSum : List ℤ → ℕ → ℤ
+pairedCosineSum window k =
+    heldBy window 0 *ℤ tableCosine 0 +ℤ heldBy window 1024 *ℤ tableCosine (1024 * k)
+    +ℤ sumTo 1023 (λ i. pairSum window (1 + i) *ℤ tableCosine ((1 + i) * k))
+
+-- the sine's over the pairs' differences; at the samples 0 and 1024 the sine is 0
+unfoldable pub pairedSineSum : List ℤ → ℕ → ℤ
+pairedSineSum window k = sumTo 1023 (λ i. pairDifference window (1 + i) *ℤ tableSine ((1 + i) * k))
+
+-- ---- one folding, between any two places
+
+-- what place p holds when a list is folded between its places first and last. The place meets its mirror, first + last − p: below the middle it then holds the sum, above the middle what it held less what the mirror held.
+-- The middle, and every place outside, holds what it did.
+unfoldable pub folded : ℕ → ℕ → (ℕ → ℤ) → ℕ → ℤ
+folded first last f p =
+    cond (ltb p first || ltb last p) (f p)
+    (cond (ltb (p + p) (first + last)) (f p +ℤ f (first + last - p))
+    (cond (ltb (first + last) (p + p)) (f p -ℤ f (first + last - p)) (f p)))
+
+-- ---- all foldings
+
+-- the pairs: sums at the places 1..1023, differences at 1025..2047
+abbrev pub paired : (ℕ → ℤ) → ℕ → ℤ
+paired = folded 1 2047
+
+-- the cosine's places 0..2·half and the sine's last 2·half − 1 places, each folded
+unfoldable pub halved : ℕ → (ℕ → ℤ) → ℕ → ℤ
+halved half f = folded (2049 - 2 * half) 2047 (folded 0 (2 * half) f)
+
+-- halved at 2^(d − 1), 2^(d − 2), .. 1
+unfoldable pub halvedFrom : ℕ → (ℕ → ℤ) → ℕ → ℤ
+halvedFrom zero f = f
+halvedFrom (suc d) f = halvedFrom d (halved (2 ^ d) f)
+
+-- a window folded as far as the table's symmetries go: the pairs, and then halved from 512 on
+unfoldable pub foldedWindow : List ℤ → ℕ → ℤ
+foldedWindow window = halvedFrom 10 (paired (heldBy window))
+
+-- the sum over some places, the first of which is given, of what they hold times a wave there
+unfoldable pub placeSum : ℕ → ℕ → (ℕ → ℤ) → (ℕ → ℤ) → ℤ
+placeSum first count f wave = sumTo count (λ i. f (first + i) *ℤ wave (first + i))
+
+-- the waves of line k by their places
+abbrev pub cosineOf : ℕ → ℕ → ℤ
+cosineOf k p = tableCosine (p * k)
+
+abbrev pub sineOf : ℕ → ℕ → ℤ
+sineOf k p = tableSine (p * k)
+
+-- ---- where a line's sums are found in a folded window
+
+-- line k ends at the halving at half: a power of two, and half × k is an odd number of quarter turns. Its cosine's places are half + 1 .. 2·half, and its sine's are so much ahead of them.
+pub record EndsAt (k half : ℕ) : Type 0 where
+  pub power : ℕ
+  pub few : power ≤ 9
+  pub is-power : half ≡ 2 ^ power
+  pub odd : (half * k) % halfTurn ≡ quarterTurn
+
+abbrev pub sineAhead : ℕ → ℕ
+sineAhead half = windowLength - 3 * half
