@@ -1,15 +1,14 @@
-/* Each call of the core against the same work in plain C, in one run, on the same values. Results are
- * compared before anything is timed. Printed: the minimum time of a call on each side, and the ratio.
- * The spectrum has a benchmark of its own (spectrum.c). The record after 50 windows is worked out by
- * kifsang_observe and, beside it, by the calls one by one. */
+/* Each call of the core against the same work in plain C, in turn in one run, on the same values; lines in
+ * C are direct sums in one loop. Results are compared before anything is timed. Printed: the minimum time
+ * of a call on each side, and the ratio. With -DBEFORE the calls that work out lines are also timed in the
+ * build before a change. The spectrum has a benchmark of its own (spectrum.c). The record after 50 windows
+ * is worked out by kifsang_observe and, beside it, by the calls one by one. */
 #define _POSIX_C_SOURCE 199309L
 #include "kifsang.h"
+#include "measure.h"
 #include "plain.h"
 
 #include <stdio.h>
-#include <stdlib.h>
-#include <string.h>
-#include <time.h>
 
 #define SYSTEM 10
 #define WINDOWS 50
@@ -34,7 +33,7 @@ static void c_lines(size_t count)
     for (int j = 0; j < SAMPLES; j++)
         if (recording[j] > 131071 || recording[j] < -131071)
             return;
-    fill_lines(recording, 45, c_part, count);
+    one_loop(recording, 45, c_part, count);
 }
 
 static void c_group_row(const uint64_t *from, uint32_t *row)
@@ -96,7 +95,7 @@ static void c_observe(void)
     memset(c_observed, 0, sizeof c_observed);
     c_observed[0] = SYSTEM;
     for (int i = 0; i < WINDOWS; i++) {
-        fill_lines(recording + i * SAMPLES, 0, from, LINES);
+        one_loop(recording + i * SAMPLES, 0, from, LINES);
         c_group_row(from, row);
         c_add_row(c_observed, row);
     }
@@ -194,25 +193,41 @@ static void core_one_by_one(void)
     }
 }
 
-static double seconds(void)
-{
-    struct timespec now;
-    clock_gettime(CLOCK_MONOTONIC, &now);
-    return (double)now.tv_sec + 1e-9 * (double)now.tv_nsec;
-}
+/* ---- the build before a change, of the calls that work out lines */
 
-static double least_time(void (*call)(void), int calls)
+#ifdef BEFORE
+static uint64_t before_part[13], before_observed[KIFSANG_RECORD_WORDS];
+
+__typeof__(kifsang_lines_from) before_kifsang_lines_from;
+__typeof__(kifsang_observe) before_kifsang_observe;
+
+static void before_line(void) { result = before_kifsang_lines_from(recording, SAMPLES, 0, 45, before_part, 1); }
+static void before_lines(void) { result = before_kifsang_lines_from(recording, SAMPLES, 0, 45, before_part, 13); }
+static void before_observe(void)
 {
-    double least = 1e9;
-    for (int batch = 0; batch < BATCHES; batch++) {
-        double start = seconds();
-        for (int i = 0; i < calls; i++)
-            call();
-        double time = (seconds() - start) / calls;
-        if (time < least)
-            least = time;
-    }
-    return least;
+    result = before_kifsang_observe(recording, WINDOWS * SAMPLES, 0, WINDOWS, SYSTEM, KIFSANG_HARMONIC_GROUP,
+                                    before_observed, KIFSANG_RECORD_WORDS);
+}
+#else
+#define before_line NULL
+#define before_lines NULL
+#define before_observe NULL
+#endif
+
+/* ---- comparing and timing */
+
+enum { CORE, PLAIN, OTHER_BUILD, SIDES };
+static double times[SIDES][BATCHES];
+
+/* Times batches of calls, each side in turn, and puts them in the order of size. A side may be missing. */
+static void fill_times(void (*const sides[SIDES])(void), int calls)
+{
+    for (int batch = 0; batch < BATCHES; batch++)
+        for (int s = 0; s < SIDES; s++)
+            if (sides[s] != NULL)
+                times[s][batch] = time_of(sides[s], calls, batch);
+    for (int s = 0; s < SIDES; s++)
+        sort_times(times[s], BATCHES);
 }
 
 static void same(const char *name, const void *core, const void *plain, size_t size)
@@ -225,20 +240,12 @@ static void same(const char *name, const void *core, const void *plain, size_t s
 
 int main(void)
 {
-    uint64_t state = 88172645463325252u, from_core, from_c;
-    for (int i = 0; i < LINES; i++) {
-        state ^= state << 13;
-        state ^= state >> 7;
-        state ^= state << 17;
-        lines[i] = state >> 6;
-    }
-    for (int i = 0; i < WINDOWS * SAMPLES; i++) {
-        state ^= state << 13;
-        state ^= state >> 7;
-        state ^= state << 17;
-        recording[i] = (int32_t)(state % 262143) - 131071;
-    }
-    fill_wave();
+    uint64_t from_core, from_c;
+    for (int i = 0; i < LINES; i++)
+        lines[i] = random_number() >> 6;
+    for (int i = 0; i < WINDOWS * SAMPLES; i++)
+        recording[i] = random_sample();
+    fill_waves();
     core_lines();
     plain_lines();
     same("lines_from", core_part, c_part, sizeof c_part);
@@ -247,6 +254,12 @@ int main(void)
     c_observe();
     same("observe", observed, c_observed, sizeof observed);
     same("the calls one by one", one_by_one, c_observed, sizeof observed);
+#ifdef BEFORE
+    before_lines();
+    same("lines_from before", before_part, c_part, sizeof c_part);
+    before_observe();
+    same("observe before", before_observed, c_observed, sizeof observed);
+#endif
     kifsang_fresh_record(SYSTEM, core_record, KIFSANG_RECORD_WORDS);
     memcpy(c_record, core_record, sizeof c_record);
     core_rows();
@@ -285,28 +298,33 @@ int main(void)
 
     static const struct {
         const char *name;
-        void (*core)(void), (*plain)(void);
+        void (*sides[SIDES])(void);
         int calls; /* in a batch */
         uint8_t letter;
     } calls[] = {
-        {"lines_from, one line", core_line, plain_line, 400, 0},
-        {"lines_from, 13 lines", core_lines, plain_lines, 100, 0},
-        {"row", core_rows, plain_rows, 400, 0},
-        {"distortion", core_distortion, plain_distortion, 400, 0},
-        {"add_row", core_add, plain_add, 400, 0},
-        {"limit, class A", core_limit, plain_limit, 400, 'A'},
-        {"limit, class B", core_limit, plain_limit, 400, 'B'},
-        {"verdict, class A", core_verdict, plain_verdict, 400, 'A'},
-        {"verdict, class B", core_verdict, plain_verdict, 400, 'B'},
-        {"fill_listing", core_listing, c_listing, 400, 0},
-        {"observe, 50 windows", core_observe, c_observe, 1, 0},
-        {"one by one, 50 windows", core_one_by_one, c_observe, 1, 0},
+        {"lines_from, one line", {core_line, plain_line, before_line}, 400, 0},
+        {"lines_from, 13 lines", {core_lines, plain_lines, before_lines}, 100, 0},
+        {"row", {core_rows, plain_rows}, 400, 0},
+        {"distortion", {core_distortion, plain_distortion}, 400, 0},
+        {"add_row", {core_add, plain_add}, 400, 0},
+        {"limit, class A", {core_limit, plain_limit}, 400, 'A'},
+        {"limit, class B", {core_limit, plain_limit}, 400, 'B'},
+        {"verdict, class A", {core_verdict, plain_verdict}, 400, 'A'},
+        {"verdict, class B", {core_verdict, plain_verdict}, 400, 'B'},
+        {"fill_listing", {core_listing, c_listing}, 400, 0},
+        {"observe, 50 windows", {core_observe, c_observe, before_observe}, 1, 0},
+        {"one by one, 50 windows", {core_one_by_one, c_observe}, 1, 0},
     };
     for (size_t i = 0; i < sizeof calls / sizeof calls[0]; i++) {
         asked_letter = calls[i].letter;
-        double core = least_time(calls[i].core, calls[i].calls), plain = least_time(calls[i].plain, calls[i].calls);
-        printf("%-22s core %9.3f us, C %9.3f us, ratio %5.2f\n", calls[i].name, 1e6 * core, 1e6 * plain,
-               core / plain);
+        fill_times(calls[i].sides, calls[i].calls);
+        printf("%-22s core %9.3f us, C %9.3f us, ratio %5.2f", calls[i].name, 1e6 * times[CORE][0],
+               1e6 * times[PLAIN][0], times[CORE][0] / times[PLAIN][0]);
+        if (calls[i].sides[OTHER_BUILD] != NULL)
+            printf("; before %9.3f us, ratio of the minima %.3f, of the medians %.3f", 1e6 * times[OTHER_BUILD][0],
+                   times[CORE][0] / times[OTHER_BUILD][0],
+                   times[CORE][BATCHES / 2] / times[OTHER_BUILD][BATCHES / 2]);
+        puts("");
     }
     return 0;
 }

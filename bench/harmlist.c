@@ -1,5 +1,6 @@
-/* The work of harmlist in plain C with the same direct sums, for valid input: the comparison of
- * bench/run. Reads a recording from standard input and writes its listing. */
+/* The work of harmlist in plain C, for valid input: the comparison of bench/run. Reads a recording from
+ * standard input and writes its listing. The one argument says how the lines are worked out: "direct", by
+ * both sums in one loop, or "folded". */
 #include "plain.h"
 
 #include <stdio.h>
@@ -34,19 +35,26 @@ static void fill_groups(int system)
     }
 }
 
-int main(void)
+int main(int count, char **words)
 {
     static char block[LINE_BYTES * SAMPLES];
     char first[LINE_BYTES];
-    int windows = 0;
-    fill_wave();
+    int windows = 0, fold_first = count == 2 && strcmp(words[1], "folded") == 0;
+    if (!fold_first && (count != 2 || strcmp(words[1], "direct") != 0)) {
+        fputs("usage: harmlist direct|folded\n", stderr);
+        return 2;
+    }
+    fill_waves();
     if (fread(first, 1, LINE_BYTES, stdin) != LINE_BYTES)
         return 1;
     int system = number_on(first);
     while (fread(block, 1, sizeof block, stdin) == sizeof block) {
         for (int j = 0; j < SAMPLES; j++)
             samples[j] = number_on(block + LINE_BYTES * j);
-        fill_lines(samples, 0, lines, LINES);
+        if (fold_first)
+            folded(samples, 0, lines, LINES);
+        else
+            one_loop(samples, 0, lines, LINES);
         fill_groups(system);
         for (int i = 0; i < ORDERS; i++)
             smoothed[i] = windows == 0 ? group[i] : (1000 * (uint64_t)group[i] + 7012 * smoothed[i] + 4006) / 8012;

@@ -1,13 +1,19 @@
 #!/usr/bin/env python3
-"""Times harmlist against the same work in C on recordings of 50, 500 and 5,000 windows, in turn in
-one run, and prints the ratio, windows per second, how time grows, and the resident memory."""
+"""Times harmlist on recordings of 50, 500 and 5,000 windows, beside the same work in C by direct sums and
+folded, and beside the build before a change where one is given, in turn in one run. All listings are
+compared before anything is timed. Prints the median and minimum of each, the ratios, windows a second, how
+the time of a window grows, and the resident memory.
+
+harmlist.py REFERENCE FOLDER PLAIN CORE [BEFORE]"""
 
 import os
+import statistics
 import subprocess
 import sys
 import time
 
-REAL_TIME = 5  # windows a second
+REAL_TIME = 5  # windows a second: 200 ms each
+RUNS = {50: 5, 500: 5, 5000: 3}
 
 
 def resident(pid):
@@ -19,45 +25,60 @@ def resident(pid):
         return 0
 
 
-def run(program, path):
-    """Seconds, output and peak resident memory in KB of one run."""
+def listing(command, path):
+    """The listing of a run that is not timed, and its peak resident memory in KB. The kernel's own peak of
+    an ended child is no use here: it counts the memory of Python, before the program is loaded."""
     memory = 0
-    start = time.perf_counter()
     with open(path, "rb") as recording:
-        process = subprocess.Popen([program], stdin=recording, stdout=subprocess.PIPE)
+        process = subprocess.Popen(command, stdin=recording, stdout=subprocess.PIPE)
         while process.poll() is None:
             memory = max(memory, resident(process.pid))
-            time.sleep(0.002)
-        seconds = time.perf_counter() - start
+            time.sleep(0.001)
         output = process.stdout.read()
-    assert process.returncode == 0
-    return seconds, output, memory
+    assert process.returncode == 0, command
+    return output, memory
+
+
+def seconds(command, path):
+    """Seconds of one run, from its start to its end."""
+    with open(path, "rb") as recording:
+        start = time.perf_counter()
+        subprocess.run(command, stdin=recording, stdout=subprocess.DEVNULL, check=True)
+        return time.perf_counter() - start
 
 
 def main():
-    reference, core, plain, folder = sys.argv[1:]
+    reference, folder, plain, core, *before = sys.argv[1:]
+    commands = {"core": [core]}
+    if before:
+        commands["before"] = before
+    commands["C direct"] = [plain, "direct"]
+    commands["C folded"] = [plain, "folded"]
     per_window = {}
-    for windows in (50, 500, 5000):
+    for windows, runs in RUNS.items():
         path = os.path.join(folder, f"recording_{windows}.txt")
         with open(path, "wb") as out:
             subprocess.run([reference, "recording", "10", str(windows), "1"], stdout=out, check=True)
-        runs = 5 if windows <= 500 else 2
-        core_times, plain_times = [], []
+        listings, memory = zip(*(listing(command, path) for command in commands.values()))
+        assert all(one == listings[0] for one in listings), "the listings differ"
+        print(f"{windows} windows: listings agree; core {memory[0]} KB resident; {runs} runs")
+        times = {name: [] for name in commands}
         for _ in range(runs):
-            seconds, from_core, memory = run(core, path)
-            core_times.append(seconds)
-            seconds, from_plain, _ = run(plain, path)
-            plain_times.append(seconds)
-            assert from_core == from_plain, "the listings differ"
-        best = min(core_times)
-        per_window[windows] = best / windows
-        print(
-            f"{windows:5d} windows: listings agree; core {best:.3f} s, C {min(plain_times):.3f} s, "
-            f"ratio {best / min(plain_times):.2f}; {windows / best:.0f} windows a second, "
-            f"{windows / best / REAL_TIME:.0f} times real time; {memory} KB resident"
-        )
+            for name, command in commands.items():
+                times[name].append(seconds(command, path))
         os.remove(path)
-    print(f"time per window at 5,000 windows over that at 50: {per_window[5000] / per_window[50]:.2f}")
+        medians = {name: statistics.median(each) for name, each in times.items()}
+        per_window[windows] = {name: median / windows for name, median in medians.items()}
+        for name, median in medians.items():
+            rate = windows / median
+            print(
+                f"  {name:8s}  median {median:.3f} s, minimum {min(times[name]):.3f} s;"
+                f" {rate:.0f} windows a second, {rate / REAL_TIME:.0f} times real time;"
+                f" core's ratio to it: medians {medians['core'] / median:.3f},"
+                f" minima {min(times['core']) / min(times[name]):.3f}"
+            )
+    growth = (f"{name} {per_window[5000][name] / per_window[50][name]:.2f}" for name in commands)
+    print("time of a window among 5,000 over that among 50: " + ", ".join(growth))
 
 
 if __name__ == "__main__":
