@@ -29,7 +29,7 @@ negℤ-*ℤ (negsuc a) (pos b) = sym (negℤ-negℤ (pos (suc a * b)))
 negℤ-*ℤ (negsuc a) (negsuc b) = refl
 
 -- the last two of three summands change places
-+ℤ-right-comm : (a b c : ℤ) → (a +ℤ b) +ℤ c ≡ (a +ℤ c) +ℤ b
+pub +ℤ-right-comm : (a b c : ℤ) → (a +ℤ b) +ℤ c ≡ (a +ℤ c) +ℤ b
 +ℤ-right-comm a b c = +ℤ-assoc a b c ∙ ap (λ x. a +ℤ x) (+ℤ-comm b c) ∙ sym (+ℤ-assoc a c b)
 
 pub +ℤ-*ℤ : (a b c : ℤ) → (a +ℤ b) *ℤ c ≡ a *ℤ c +ℤ b *ℤ c
@@ -46,6 +46,9 @@ pub +ℤ-*ℤ : (a b c : ℤ) → (a +ℤ b) *ℤ c ≡ a *ℤ c +ℤ b *ℤ c
 
 pub *ℤ-+ℤ : (a b c : ℤ) → a *ℤ (b +ℤ c) ≡ a *ℤ b +ℤ a *ℤ c
 *ℤ-+ℤ a b c = *ℤ-comm a (b +ℤ c) ∙ +ℤ-*ℤ b c a ∙ ap (λ x. x +ℤ c *ℤ a) (*ℤ-comm b a) ∙ ap (λ x. a *ℤ b +ℤ x) (*ℤ-comm c a)
+
+pub *ℤ-negℤ : (a b : ℤ) → a *ℤ negℤ b ≡ negℤ (a *ℤ b)
+*ℤ-negℤ a b = *ℤ-comm a (negℤ b) ∙ negℤ-*ℤ b a ∙ ap negℤ (*ℤ-comm b a)
 
 pub *ℤ-assoc : (a b c : ℤ) → (a *ℤ b) *ℤ c ≡ a *ℤ (b *ℤ c)
 *ℤ-assoc a b c = ℤ-steps (λ k. (k *ℤ b) *ℤ c ≡ k *ℤ (b *ℤ c)) base up down a

@@ -6,7 +6,7 @@ use native.Mathlib.Nat.{le-refl, le-step, le-trans, add-le-add, add-zero, add-su
 use native.Mathlib.Omega.{arith}
 use lib.IntN.{ℤ, pos, negℤ, natAbs, _+ℤ_, _-ℤ_, _*ℤ_, *ℤ-zero, negℤ-+ℤ, +ℤ-assoc, +ℤ-comm, +ℤ-idr}
 use Rattle.algebra.specs.Sums.{sumTo}
-use Rattle.algebra.proofs.Integer.{*ℤ-+ℤ, natAbs-+ℤ-le}
+use Rattle.algebra.proofs.Integer.{*ℤ-+ℤ, +ℤ-right-comm, natAbs-+ℤ-le}
 use Rattle.algebra.proofs.Ring.{variable, _⊕_, ring}
 
 -- 1 + 2 + 4 + 8
@@ -85,15 +85,11 @@ sumTo-pairs n f =
     rw middle-first
     (sumTo-parts n (suc n) f
     ∙ ap (λ z. sumTo n f +ℤ z) (sumTo-first n (λ j. f (n + j)) ∙ ap₂ (λ a z. f a +ℤ z) (add-zero n) after-the-middle)
-    ∙ middle-last (sumTo n f) (f n) (sumTo n (λ j. f (2 * n - j)))
+    ∙ sym (+ℤ-assoc (sumTo n f) (f n) (sumTo n (λ j. f (2 * n - j))))
+    ∙ +ℤ-right-comm (sumTo n f) (f n) (sumTo n (λ j. f (2 * n - j)))
     ∙ ap (λ z. z +ℤ f n) (sym (sumTo-+ℤ n f (λ j. f (2 * n - j)))))
   where
     after-the-middle : sumTo n (λ j. f (n + suc j)) ≡ sumTo n (λ j. f (2 * n - j))
     after-the-middle =
         sym (sumTo-reversed n (λ j. f (n + suc j)))
         ∙ sumTo-same n _ _ (λ j below. let mirrored : n + suc (n - suc j) ≡ 2 * n - j = omega arith in ap f mirrored)
-
-    middle-last : (a b c : ℤ) → a +ℤ (b +ℤ c) ≡ (a +ℤ c) +ℤ b
-    middle-last a b c =
-        let x = variable 0 in let y = variable 1 in let z = variable 2 in
-        ring (x ⊕ (y ⊕ z)) ((x ⊕ z) ⊕ y) tt (a ∷ b ∷ c ∷ [])

@@ -2,10 +2,10 @@
 -- They hold of every wave that is made of a quarter which begins with 0; the others follow from the two.
 use mathlib.Core.Path.{_≡_, refl, sym, ap, _∙_}
 use mathlib.Core.Logic.{⊎-elim}
-use Prim.Native.Nat.{ℕ, zero, suc, _+_, _-_, _*_, _%_, _≤_, _<_}
+use Prim.Native.Nat.{ℕ, _+_, _-_, _*_, _%_, _≤_, _<_}
 use native.Mathlib.Nat.{mul-add-mod-self-left}
 use native.Mathlib.Omega.{arith}
-use lib.IntN.{ℤ, pos, negsuc, negℤ, negℤ-negℤ}
+use lib.IntN.{pos, negℤ, negℤ-negℤ}
 use Rattle.algebra.specs.Rounding.{nearest}
 use Rattle.sine.specs.Turn.{overHalf, overTurn, turn, halfTurn, quarterTurn}
 use Rattle.sine.specs.ExactSine.{denominator, term, factorial, added, takenAway, quarterSine}

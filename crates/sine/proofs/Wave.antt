@@ -1,17 +1,17 @@
 -- The table's sine: its bound, its distance from the exact sine, its period, its list, and worked values.
 -- What holds of every index is shown over the quarter once.
-use mathlib.Core.Path.{_≡_, refl, sym, ap, _∙_}
+use mathlib.Core.Path.{_≡_, refl, _∙_}
 use mathlib.Core.Logic.{⊎-elim}
 use mathlib.Core.List.{[], _∷_, map}
 use Prim.Native.Nat.{ℕ, zero, suc, _+_, _*_, _%_, _≤_, _<_}
 use native.Mathlib.Nat.{mod-lt}
 use native.Mathlib.Omega.{arith}
 use lib.Dec.{leb, leb→le, le→leb, lit<}
-use lib.IntN.{ℤ, pos, negℤ, natAbs, _-ℤ_, _*ℤ_, negℤ-+ℤ, *ℤ-zero, *ℤ-negsuc}
+use lib.IntN.{ℤ, pos, negℤ, natAbs, _-ℤ_, _*ℤ_, negℤ-+ℤ}
 use lib.ListN.{getD}
 use borrow.Author.Tests.{lt-ltb, le-ltb}
 use Rattle.algebra.specs.Rounding.{nearest}
-use Rattle.algebra.proofs.Integer.{natAbs-negℤ}
+use Rattle.algebra.proofs.Integer.{*ℤ-negℤ, natAbs-negℤ}
 use Rattle.algebra.proofs.Lists.{getD-tabulate}
 use Rattle.sine.specs.Turn.{overHalf, overTurn, turn, halfTurn, quarterTurn}
 use Rattle.sine.specs.ExactSine.{denominator, term, factorial, added, takenAway, quarterSine, exactSine, exactCosine}
@@ -20,10 +20,6 @@ use Rattle.algebra.proofs.Computed.{pass-below}
 use Rattle.algebra.proofs.Rounding.{nearest-is}
 use Rattle.sine.proofs.Turn.{le-or-lt, overTurn-first, over-turn, overTurn-mod}
 use Rattle.sine.proofs.ExactSine.{denominator-pos}
-
-*ℤ-negℤ : (a : ℤ) (n : ℕ) → a *ℤ negℤ (pos n) ≡ negℤ (a *ℤ pos n)
-*ℤ-negℤ a zero = *ℤ-zero a ∙ sym (ap negℤ (*ℤ-zero a))
-*ℤ-negℤ a (suc n) = *ℤ-negsuc a n
 
 -- the table is at most the full scale
 pub tableEntry-le : (m : ℕ) → m ≤ quarterTurn → tableEntry m ≤ fullScale
@@ -67,8 +63,8 @@ tableEntry-near m h =
 near-negℤ : (a b : ℕ) → WithinHalfUnit (pos a) (pos b) → WithinHalfUnit (negℤ (pos a)) (negℤ (pos b))
 near-negℤ a b h =
     rw (
-      *ℤ-negℤ (pos fullScale) a,
-      *ℤ-negℤ (pos denominator) b,
+      *ℤ-negℤ (pos fullScale) (pos a),
+      *ℤ-negℤ (pos denominator) (pos b),
       ← negℤ-+ℤ (pos (fullScale * a)) (negℤ (pos (denominator * b))),
       natAbs-negℤ (pos (fullScale * a) -ℤ pos (denominator * b)),
     )

@@ -3,8 +3,8 @@
 use mathlib.Core.Bool.{false}
 use mathlib.Core.List.{List}
 use mathlib.Core.Path.{_≡_}
-use Prim.Native.Nat.{ℕ, _+_, _*_, _^_, _≤_, _<_}
-use native.Mathlib.Nat.{le-refl, le-trans, mul-le-mul, mul-le-mul-right, add-le-add}
+use Prim.Native.Nat.{ℕ, _*_, _^_, _≤_, _<_}
+use native.Mathlib.Nat.{le-trans, mul-le-mul, add-le-add}
 use native.Mathlib.Decide.{decLt}
 use native.Mathlib.Omega.{arith}
 use borrow.Author.Tests.{ltb-false}
@@ -12,7 +12,6 @@ use lib.IntN.{ℤ, pos, natAbs, _*ℤ_}
 use lib.ListN.{getD, length, List·getD-eq-default}
 use Rattle.algebra.specs.Lists.{anyOf}
 use Rattle.algebra.specs.Rounding.{nearestℤ}
-use Rattle.algebra.specs.Sums.{sumTo}
 use Rattle.algebra.proofs.Integer.{natAbs-*ℤ}
 use Rattle.algebra.proofs.Lists.{anyOf-none}
 use Rattle.algebra.proofs.Rounding.{natAbs-nearestℤ-le, nearest-le}
@@ -26,13 +25,6 @@ use Rattle.spectrum.specs.Spectrum.{largestSample, outOfRange}
 -- summand j of the sum of line k
 abbrev pub summand : (ℕ → ℤ) → List ℤ → ℕ → ℕ → ℤ
 summand wave window k j = getD window j (pos 0) *ℤ wave (j * k)
-
--- the table's sine a phase ahead: with a quarter turn, the table's cosine
-abbrev pub shiftedSine : ℕ → ℕ → ℤ
-shiftedSine phase i = tableSine (i + phase)
-
-pub shiftedSine-le : (phase i : ℕ) → natAbs (shiftedSine phase i) ≤ fullScale
-shiftedSine-le phase i = tableSine-le (i + phase)
 
 pub square-le : (x : ℤ) → natAbs x ≤ 2 ^ 29 → square x ≤ 2 ^ 58
 unfolding square
@@ -54,19 +46,14 @@ module _ (window : List ℤ) (in-range : anyOf outOfRange window ≡ false) wher
       go (no f) = rw (List·getD-eq-default window (pos 0) {n = j} (omega arith)) (omega arith)
 
   module _ (wave : ℕ → ℤ) (wave-le : (i : ℕ) → natAbs (wave i) ≤ fullScale) where
-    -- the first n summands
-    pub partialSum-le : (k n : ℕ) → n ≤ windowLength → natAbs (sumTo n (summand wave window k)) < 2 ^ 58
-    partialSum-le k n h =
-        omega (
-          arith,
-          sumTo-natAbs-le n (largestSample * fullScale) (summand wave window k)
-              (λ j l. rw natAbs-*ℤ (mul-le-mul (sample-le j) (wave-le (j * k)))),
-          mul-le-mul-right (largestSample * fullScale) h,
-        )
-
     pub lineSum-le : (k : ℕ) → natAbs (lineSum wave window k) < 2 ^ 58
     unfolding lineSum
-    lineSum-le k = partialSum-le k windowLength (le-refl windowLength)
+    lineSum-le k =
+        omega (
+          arith,
+          sumTo-natAbs-le windowLength (largestSample * fullScale) (summand wave window k)
+              (λ j l. rw natAbs-*ℤ (mul-le-mul (sample-le j) (wave-le (j * k)))),
+        )
 
     pub roundedSum-le : (k : ℕ) → natAbs (roundedSum wave window k) ≤ 2 ^ 29
     unfolding roundedSum

@@ -2,13 +2,13 @@
 use mathlib.Core.Bool.{Bool, true, false, cond, _||_}
 use mathlib.Core.List.{List}
 use mathlib.Core.Logic.{⊎-elim}
-use mathlib.Core.Path.{_≡_, sym, ap, _∙_}
+use mathlib.Core.Path.{_≡_, ap, _∙_}
 use Prim.Native.Nat.{ℕ, zero, suc, _+_, _-_, _*_, _/_, _^_, _≤_, _<_}
 use native.Mathlib.Nat.{eq-or-lt-of-le, le-of-suc-le-suc, not-suc-le-zero, mul-le-mul, mul-le-mul-right, le-trans, le-div-iff-mul-le, mul-div-le}
 use native.Mathlib.Decide.{decLt, decLe}
 use native.Mathlib.Omega.{arith}
 use lib.Dec.{ltb}
-use lib.IntN.{ℤ, pos, negℤ, natAbs, _+ℤ_, _-ℤ_, _*ℤ_}
+use lib.IntN.{ℤ, negℤ, natAbs, _+ℤ_, _-ℤ_, _*ℤ_}
 use lib.Pow.{pow-pos}
 use Rattle.algebra.specs.Lists.{anyOf}
 use Rattle.algebra.specs.Sums.{sumTo}
@@ -19,8 +19,8 @@ use Rattle.sine.proofs.Wave.{tableCosine-le}
 use Rattle.spectrum.specs.Spectrum.{largestSample, outOfRange}
 use Rattle.spectrum.specs.Folding.{heldBy, Within, folded, paired, halved, halvedFrom, foldedWindow, placeSum, cosineOf}
 use Rattle.spectrum.proofs.Bounds.{sample-le}
-use Rattle.spectrum.proofs.FoldedPlaces.{folded-before, folded-after, folded-low, folded-middle, folded-high}
-use Rattle.spectrum.proofs.FoldedSums.{double, at-most-512, low-places, halvedFrom-keeps}
+use Rattle.spectrum.proofs.FoldedPlaces.{folded-after}
+use Rattle.spectrum.proofs.HalvedSums.{double, at-most-512, low-places, halvedFrom-keeps}
 
 cond-within : (test : Bool) (x y : ℤ) (bound : ℕ) → natAbs x ≤ bound → natAbs y ≤ bound → natAbs (cond test x y) ≤ bound
 cond-within true x y bound g h = g

@@ -1,19 +1,20 @@
 -- A line from a folded window (card 13): the two sums over the places where the line's foldings end are document 01's, and so small that 64 bits hold them.
 use mathlib.Core.Bool.{Bool, true, false, cond}
 use mathlib.Core.List.{List}
-use mathlib.Core.Path.{_≡_, refl, sym, ap, ap₂, _∙_}
+use mathlib.Core.Path.{_≡_, refl, sym, ap, _∙_}
 use Prim.Native.Nat.{ℕ, suc, _+_, _-_, _*_, _%_, _^_, _≤_, _<_}
 use native.Mathlib.Nat.{add-zero, mod-lt, mod-eq-of-lt, mod-eq-sub-mod, mod-mod-of-dvd, dvd-mul-right}
 use native.Mathlib.Decide.{decLt}
 use native.Mathlib.Omega.{arith}
 use borrow.Author.Tests.{eqb-true, eqb-false}
 use lib.Dec.{eqb, lit<}
-use lib.IntN.{ℤ, pos, negℤ, natAbs, _+ℤ_, _*ℤ_, zero-*ℤ, *ℤ-zero}
+use lib.IntN.{ℤ, pos, negℤ, natAbs, _*ℤ_, zero-*ℤ, *ℤ-zero}
 use lib.Pow.{pow-pos}
 use Rattle.algebra.specs.Integers.{square}
 use Rattle.algebra.specs.Rounding.{nearestℤ, floorOver}
 use Rattle.algebra.specs.Sums.{sumTo}
-use Rattle.algebra.proofs.SumTo.{sumTo-same, sumTo-*ℤ}
+use Rattle.algebra.proofs.Integer.{*ℤ-negℤ}
+use Rattle.algebra.proofs.SumTo.{sumTo-same, sumTo-*ℤ, sumTo-negℤ}
 use Rattle.sine.specs.Turn.{turn, halfTurn, quarterTurn}
 use Rattle.sine.specs.Wave.{tableSine, tableCosine}
 use Rattle.sine.proofs.Symmetry.{tableSine-start}
@@ -21,7 +22,8 @@ use Rattle.spectrum.specs.Line.{windowLength, lineSum, sumScale, rounded
 use Rattle.spectrum.specs.Spectrum.{largestSample}
 use Rattle.spectrum.specs.Folding.{heldBy, foldedWindow, placeSum, cosineOf, sineOf, EndsAt, sineAhead}
 use Rattle.spectrum.specs.Prepared.{Prepared}
-use Rattle.spectrum.proofs.FoldedSums.{at-most-512, folded-cosine, folded-sine, folded-0, sine-ahead, sine-ahead-opposite}
+use Rattle.spectrum.proofs.LineWaves.{sine-is-cosine, sine-is-opposite}
+use Rattle.spectrum.proofs.HalvedSums.{at-most-512, folded-cosine, folded-sine, folded-0}
 use Rattle.spectrum.proofs.FoldedBounds.{foldedWindow-left, placeSum-le}
 
 -- what the sine's sum takes at the cosine's place
@@ -64,6 +66,26 @@ module _ (folded wave : List ℤ) (prepared : Prepared folded wave) (k half : �
   sine-sum-small =
       let all : suc (2 * half) - suc half ≡ half = omega arith in
       rw all at (sine-small (suc (2 * half)) (omega arith) (omega arith))
+
+-- ---- the sine's sum over the cosine's places
+
+module _ (half k : ℕ) (most : half ≤ 512) (f : ℕ → ℤ) where
+  moved : placeSum (2049 - 2 * half) half f (sineOf k) ≡ placeSum (suc half) half (λ p. f (p + sineAhead half)) (λ p. sineOf k (p + sineAhead half))
+  unfolding placeSum
+  moved = sumTo-same half _ _ (λ i below.
+      let place : 2049 - 2 * half + i ≡ suc half + i + sineAhead half = omega arith in
+      ap (λ p. f p *ℤ sineOf k p) place)
+
+  sine-ahead : (half * k) % turn ≡ quarterTurn → placeSum (2049 - 2 * half) half f (sineOf k) ≡ placeSum (suc half) half (λ p. f (p + sineAhead half)) (cosineOf k)
+  unfolding placeSum
+  sine-ahead h = moved ∙ sumTo-same half _ _ (λ i below. ap (λ w. f (suc half + i + sineAhead half) *ℤ w) (sine-is-cosine half k most h (suc half + i)))
+
+  sine-ahead-opposite : (half * k) % turn ≡ 3 * quarterTurn → placeSum (2049 - 2 * half) half f (sineOf k) ≡ negℤ (placeSum (suc half) half (λ p. f (p + sineAhead half)) (cosineOf k))
+  unfolding placeSum
+  sine-ahead-opposite h =
+      moved
+      ∙ sumTo-same half _ _ (λ i below. ap (λ w. f (suc half + i + sineAhead half) *ℤ w) (sine-is-opposite half k most h (suc half + i)) ∙ *ℤ-negℤ (f (suc half + i + sineAhead half)) (cosineOf k (suc half + i)))
+      ∙ sumTo-negℤ half (λ i. f (suc half + i + sineAhead half) *ℤ cosineOf k (suc half + i))
 
 -- ---- what they are
 

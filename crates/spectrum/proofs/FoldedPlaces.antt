@@ -3,19 +3,19 @@ use mathlib.Core.Bool.{Bool, true, false, cond, _||_}
 use mathlib.Core.List.{List, [], _∷_, map}
 use mathlib.Core.Logic.{⊎-elim}
 use mathlib.Core.Path.{_≡_, refl, sym, ap, ap₂, _∙_, fun-ext}
-use Prim.Native.Nat.{ℕ, zero, suc, _+_, _-_, _*_, _^_, _≤_, _<_}
+use Prim.Native.Nat.{ℕ, suc, _+_, _-_, _*_, _≤_, _<_}
 use native.Mathlib.Numerals.{add-one}
-use native.Mathlib.Nat.{le-refl, add-zero, add-suc, add-comm, eq-or-lt-of-le, le-of-suc-le-suc}
+use native.Mathlib.Nat.{le-refl, add-zero, add-comm, eq-or-lt-of-le, le-of-suc-le-suc}
 use native.Mathlib.Decide.{decLt}
 use native.Mathlib.Omega.{arith}
 use borrow.Author.Tests.{lt-ltb, le-ltb}
 use lib.Dec.{ltb}
-use lib.IntN.{ℤ, pos, negℤ, natAbs, _+ℤ_, _-ℤ_, _*ℤ_, +ℤ-comm}
+use lib.IntN.{ℤ, pos, negℤ, _+ℤ_, _-ℤ_, _*ℤ_, +ℤ-comm, +ℤ-idl, *ℤ-zero}
 use lib.ListN.{length, set, length-set}
 use lib.Seq.{getD-set-same, getD-set-other}
 use Rattle.algebra.specs.Sums.{sumTo}
 use Rattle.algebra.proofs.Integer.{+ℤ-*ℤ}
-use Rattle.algebra.proofs.Ring.{variable, constant, _⊕_, _⊖_, _⊗_, ⊝_, ring}
+use Rattle.algebra.proofs.Ring.{variable, _⊕_, _⊖_, _⊗_, ⊝_, ring}
 use Rattle.algebra.proofs.SumTo.{sumTo-same, sumTo-first, sumTo-reversed, sumTo-pairs}
 use Rattle.spectrum.specs.Folding.{heldBy, folded, placeSum}
 
@@ -154,6 +154,15 @@ module _ (first : ℕ) (wave : ℕ → ℤ) where
       ∙ ap₂ _+ℤ_
       (ap (λ p. f p *ℤ wave p) (add-zero first))
       (sumTo-same count _ _ (λ i below. let next : first + suc i ≡ suc first + i = omega arith in ap (λ p. f p *ℤ wave p) next))
+
+  -- a place where the wave is 0 may be left out
+  pub placeSum-rest : (count : ℕ) (f : ℕ → ℤ) → wave first ≡ pos 0 → placeSum first (suc count) f wave ≡ placeSum (suc first) count f wave
+  placeSum-rest count f none =
+      let rest = placeSum (suc first) count f wave in
+      placeSum-first count f
+      ∙ ap (λ z. f first *ℤ z +ℤ rest) none
+      ∙ ap (λ z. z +ℤ rest) (*ℤ-zero (f first))
+      ∙ +ℤ-idl rest
 
 -- ---- the laws: between first and last, n places on either side of the middle, a wave that is the same at mirrored places leaves the lower half, and one that is opposite the upper half, each with the middle
 

@@ -1,7 +1,9 @@
 -- The theorems of the spectrum.
 pub mod Bounds
 pub mod FoldedPlaces
-pub mod FoldedSums
+pub mod LineWaves
+pub mod PairedSums
+pub mod HalvedSums
 pub mod FoldedBounds
 pub mod FoldedLines
 pub mod Lines

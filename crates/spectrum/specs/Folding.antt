@@ -1,5 +1,5 @@
 -- Folding a window before anything is multiplied (card 13). Where the wave at two places of a list is the same, the sum of what they hold stands for both; where it is opposite, the difference does.
--- No public contract cites it: proofs/FoldedSums.antt shows that the sums over what is left are document 01's.
+-- No public contract cites it: proofs/PairedSums.antt and proofs/HalvedSums.antt show that the sums over what is left are document 01's.
 use mathlib.Core.Bool.{cond, _||_}
 use mathlib.Core.List.{List}
 use mathlib.Core.Path.{_≡_}

@@ -4,7 +4,7 @@ use crate::WINDOW_LENGTH;
 use sine::TURN;
 ghost use mathlib.Core.Bool.{cond};
 ghost use mathlib.Core.Path.{_≡_};
-ghost use Prim.Native.Nat.{suc, _+_, _*_, _%_, _^_, _<_, _≤_};
+ghost use Prim.Native.Nat.{suc, _+_, _*_, _%_, _^_, _<_};
 ghost use lib.Dec.{eqb};
 ghost use lib.IntN.{natAbs, negℤ, _+ℤ_, _*ℤ_};
 ghost use Rattle.algebra.specs.Integers.{square};

@@ -1,6 +1,6 @@
 -- `spectrum::folding::copy_window` meets its contract. The loop's invariant: the first j of the window's samples and then what was there. The measure is what is left of the window.
 use mathlib.Core.Path.{_≡_, sym, _∙_}
-use Prim.Native.Nat.{ℕ, _-_, _≤_}
+use Prim.Native.Nat.{_-_, _≤_}
 use native.Mathlib.Omega.{arith}
 use borrow.Author.Needs.{needs}
 use lib.IntN.{pos}

@@ -4,7 +4,7 @@ use Prim.Native.Nat.{_*_, _^_}
 use native.Mathlib.Omega.{arith}
 use borrow.Author.Needs.{needs}
 use Rattle.spectrum.specs.Spectrum.{largestSample}
-use Rattle.spectrum.specs.Folding.{heldBy, Within, paired, halvedFrom, foldedWindow}
+use Rattle.spectrum.specs.Folding.{heldBy, paired, halvedFrom, foldedWindow}
 use Rattle.spectrum.proofs.Bounds.{sample-le}
 use Rattle.spectrum.proofs.FoldedBounds.{within-same, paired-within}
 use Rattle.spectrum.proofs.folding.fold_window.Statement.{statement}

@@ -1,16 +1,15 @@
 -- `spectrum::folding::halve` meets its contract. The loop's invariant: the span is a power of two, what is left to be halved gives the whole, and the numbers times the span stay below one bound. The measure is the span.
-use mathlib.Core.Path.{_≡_, refl, sym, ap, _∙_}
-use Prim.Native.Nat.{ℕ, zero, suc, _+_, _-_, _*_, _/_, _^_, _≤_, _<_}
+use mathlib.Core.Path.{_≡_, refl, ap, _∙_}
+use Prim.Native.Nat.{ℕ, zero, suc, _-_, _*_, _/_, _^_, _≤_, _<_}
 use native.Mathlib.Nat.{mul-le-mul-left, lt-irrefl}
 use native.Mathlib.Omega.{arith}
 use borrow.Author.Needs.{needs}
 use lib.IntN.{ℤ}
 use lib.ListN.{length}
-use lib.Pow.{pow-pos, pow-mono}
-use Rattle.spectrum.specs.Line.{windowLength}
+use lib.Pow.{pow-pos}
 use Rattle.spectrum.specs.Spectrum.{largestSample}
 use Rattle.spectrum.specs.Folding.{heldBy, Within, folded, halved, halvedFrom}
-use Rattle.spectrum.proofs.FoldedSums.{double}
+use Rattle.spectrum.proofs.HalvedSums.{double}
 use Rattle.spectrum.proofs.FoldedBounds.{within-same, folded-within, halved-within}
 use Rattle.spectrum.proofs.folding.halve.Statement.{statement}
 use Rattle.spectrum.proofs.folding.halve.Tie as tie

@@ -1,5 +1,5 @@
 -- `spectrum::folding::less` meets its contract: two numbers below 2^30 have their difference in 32 bits.
-use mathlib.Core.Path.{_≡_, ap₂, _∙_}
+use mathlib.Core.Path.{ap₂, _∙_}
 use native.Mathlib.Omega.{arith}
 use lib.IntN.{negℤ, _-ℤ_}
 use mir.Syntax.{w32}

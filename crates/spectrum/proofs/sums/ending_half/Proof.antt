@@ -9,7 +9,7 @@ use lib.Dec.{lit<}
 use lib.Pow.{pow-pos}
 use Rattle.sine.specs.Turn.{halfTurn, quarterTurn}
 use Rattle.spectrum.specs.Folding.{EndsAt}
-use Rattle.spectrum.proofs.FoldedSums.{double}
+use Rattle.spectrum.proofs.HalvedSums.{double}
 use Rattle.spectrum.proofs.sums.ending_half.Statement.{statement}
 use Rattle.spectrum.proofs.sums.ending_half.Tie as tie
 

@@ -1,6 +1,6 @@
 -- `spectrum::sums::sum_of_line_0` meets its contract: the cosine at every place is that of 0.
 use mathlib.Core.List.{List}
-use mathlib.Core.Path.{_≡_, sym, ap, ap₂, _∙_}
+use mathlib.Core.Path.{_≡_, ap, ap₂, _∙_}
 use Prim.Native.Nat.{ℕ, _*_, _^_, _<_}
 use native.Mathlib.Nat.{mul-le-mul, lt-of-le-of-lt}
 use native.Mathlib.Omega.{arith}
@@ -12,10 +12,9 @@ use mir.Val.{toZ, ofZ}
 use mir.ValLaws.{toZ-ofZ}
 use Rattle.algebra.specs.Sums.{sumTo}
 use Rattle.algebra.proofs.Integer.{natAbs-*ℤ}
-use Rattle.sine.specs.Wave.{tableCosine, waveList}
+use Rattle.sine.specs.Wave.{tableCosine}
 use Rattle.sine.proofs.Wave.{tableCosine-le, waveList-at}
-use Rattle.spectrum.specs.Spectrum.{largestSample}
-use Rattle.spectrum.specs.Folding.{heldBy, foldedWindow, placeSum, cosineOf}
+use Rattle.spectrum.specs.Folding.{heldBy, foldedWindow, placeSum}
 use Rattle.spectrum.specs.Prepared.{Prepared}
 use Rattle.spectrum.proofs.FoldedBounds.{foldedWindow-within}
 use Rattle.spectrum.proofs.sums.sum_of_line_0.Statement.{statement}
