@@ -15,9 +15,8 @@ use Rattle.algebra.specs.Sums.{sumTo}
 use Rattle.algebra.proofs.Integer.{natAbs-*ℤ, natAbs-+ℤ-le, natAbs-negℤ}
 use Rattle.algebra.proofs.SumTo.{sumTo-natAbs-le}
 use Rattle.sine.specs.Wave.{fullScale}
-use Rattle.sine.proofs.Wave.{tableCosine-le}
 use Rattle.spectrum.specs.Spectrum.{largestSample, outOfRange}
-use Rattle.spectrum.specs.Folding.{heldBy, Within, folded, paired, halved, halvedFrom, foldedWindow, placeSum, cosineOf}
+use Rattle.spectrum.specs.Folding.{heldBy, Within, folded, paired, halved, halvedFrom, foldedWindow}
 use Rattle.spectrum.proofs.Bounds.{sample-le}
 use Rattle.spectrum.proofs.FoldedPlaces.{folded-after}
 use Rattle.spectrum.proofs.HalvedSums.{double, at-most-512, low-places, halvedFrom-keeps}
@@ -100,15 +99,14 @@ module _ (window : List ℤ) (in-range : anyOf outOfRange window ≡ false) wher
   unfolding foldedWindow
   foldedWindow-left c few = left-within c 10 (omega arith) (omega arith) (2 * largestSample) (paired (heldBy window)) paired-within
 
--- a sum over at most `half` places whose numbers, times half, are so small, is below 2^58, as document 01's sums are
-pub placeSum-le : (first count half k : ℕ) (f : ℕ → ℤ) → 1 ≤ half → count ≤ half →
-    ((i : ℕ) → i < count → natAbs (f (first + i)) * half ≤ 2 * largestSample * 2 ^ 10) →
-    natAbs (placeSum first count f (cosineOf k)) < 2 ^ 58
-unfolding placeSum
-placeSum-le first count half k f some few small =
-    let most = 2 * largestSample * 2 ^ 10 / half in
-    let each : natAbs (sumTo count (λ i. f (first + i) *ℤ cosineOf k (first + i))) ≤ count * (most * fullScale) =
-    sumTo-natAbs-le count (most * fullScale) _
-    (λ i below. rw natAbs-*ℤ (mul-le-mul (le-div-iff-mul-le some .1 (small i below)) (tableCosine-le ((first + i) * k)))) in
-    let all : count * most ≤ 2 * largestSample * 2 ^ 10 = le-trans (mul-le-mul-right most few) (mul-div-le (2 * largestSample * 2 ^ 10) half) in
+-- a sum over at most `count` numbers that, times count, are so small, is below 2^58, as document 01's sums are
+pub light-sum-le : (count n : ℕ) (f wave : ℕ → ℤ) → 1 ≤ count → n ≤ count → ((i : ℕ) → natAbs (wave i) ≤ fullScale) →
+    ((i : ℕ) → i < n → natAbs (f i) * count ≤ 2 * largestSample * 2 ^ 10) →
+    natAbs (sumTo n (λ i. f i *ℤ wave i)) < 2 ^ 58
+light-sum-le count n f wave some few wave-le light =
+    let most = 2 * largestSample * 2 ^ 10 / count in
+    let each : natAbs (sumTo n (λ i. f i *ℤ wave i)) ≤ n * (most * fullScale) =
+    sumTo-natAbs-le n (most * fullScale) _
+    (λ i below. rw natAbs-*ℤ (mul-le-mul (le-div-iff-mul-le some .1 (light i below)) (wave-le i))) in
+    let all : n * most ≤ 2 * largestSample * 2 ^ 10 = le-trans (mul-le-mul-right most few) (mul-div-le (2 * largestSample * 2 ^ 10) count) in
     omega (arith, each, mul-le-mul-right fullScale all)

@@ -3,13 +3,15 @@ use mathlib.Core.Bool.{Bool, true, false, cond}
 use mathlib.Core.List.{List}
 use mathlib.Core.Path.{_≡_, refl, sym, ap, _∙_}
 use Prim.Native.Nat.{ℕ, suc, _+_, _-_, _*_, _%_, _^_, _≤_, _<_}
-use native.Mathlib.Nat.{add-zero, mod-lt, mod-eq-of-lt, mod-eq-sub-mod, mod-mod-of-dvd, dvd-mul-right}
+use native.Mathlib.Nat.{le-refl, add-zero, mod-lt, mod-eq-of-lt, mod-eq-sub-mod, mod-mod-of-dvd, dvd-mul-right}
 use native.Mathlib.Decide.{decLt}
 use native.Mathlib.Omega.{arith}
 use borrow.Author.Tests.{eqb-true, eqb-false}
 use lib.Dec.{eqb, lit<}
 use lib.IntN.{ℤ, pos, negℤ, natAbs, _*ℤ_, zero-*ℤ, *ℤ-zero}
+use lib.ListN.{length, take, drop, length-take, length-drop}
 use lib.Pow.{pow-pos}
+use lib.Seq.{getD-take, getD-drop}
 use Rattle.algebra.specs.Integers.{square}
 use Rattle.algebra.specs.Rounding.{nearestℤ, floorOver}
 use Rattle.algebra.specs.Sums.{sumTo}
@@ -18,29 +20,41 @@ use Rattle.algebra.proofs.SumTo.{sumTo-same, sumTo-*ℤ, sumTo-negℤ}
 use Rattle.sine.specs.Turn.{turn, halfTurn, quarterTurn}
 use Rattle.sine.specs.Wave.{tableSine, tableCosine}
 use Rattle.sine.proofs.Symmetry.{tableSine-start}
+use Rattle.sine.proofs.Wave.{tableCosine-le}
 use Rattle.spectrum.specs.Line.{windowLength, lineSum, sumScale, roundedSum, lineOf}
 use Rattle.spectrum.specs.Spectrum.{largestSample}
-use Rattle.spectrum.specs.Folding.{heldBy, foldedWindow, placeSum, cosineOf, sineOf, EndsAt, sineAhead}
-use Rattle.spectrum.specs.Prepared.{Prepared}
+use Rattle.spectrum.specs.Folding.{heldBy, foldedWindow, placeSum, partSum, cosineOf, sineOf, EndsAt, sineAhead}
+use Rattle.spectrum.specs.Prepared.{Prepared, Light}
 use Rattle.spectrum.proofs.LineWaves.{sine-is-cosine, sine-is-opposite}
 use Rattle.spectrum.proofs.HalvedSums.{at-most-512, folded-cosine, folded-sine, folded-0}
-use Rattle.spectrum.proofs.FoldedBounds.{foldedWindow-left, placeSum-le}
+use Rattle.spectrum.proofs.FoldedBounds.{foldedWindow-left, light-sum-le}
 
 -- what the sine's sum takes at the cosine's place
 abbrev pub ahead : List ℤ → ℕ → ℕ → ℤ
 ahead folded half p = heldBy folded (p + sineAhead half)
 
--- the sums over the places before p: the cosine's with what the places hold, the sine's with what those ahead of them do
-abbrev pub sumBefore : ℕ → ℕ → (ℕ → ℤ) → ℕ → ℤ
-sumBefore half k f p = placeSum (suc half) (p - suc half) f (cosineOf k)
-
 pub half-le : (k half : ℕ) → EndsAt k half → half ≤ 512
 half-le k half ends = rw (ends .is-power) (at-most-512 (ends .power) (ends .few))
 
-half-pos : (k half : ℕ) → EndsAt k half → 1 ≤ half
+pub half-pos : (k half : ℕ) → EndsAt k half → 1 ≤ half
 half-pos k half ends = rw (ends .is-power) (pow-pos (ends .power))
 
--- ---- their size
+-- ---- a part of a list
+
+module _ (list : List ℤ) (first count : ℕ) (room : first + count ≤ length list) where
+  pub part-length : length (take count (drop first list)) ≡ count
+  part-length = simp (length-take, length-drop) (omega arith)
+
+  part-held : (i : ℕ) → i < count → heldBy (take count (drop first list)) i ≡ heldBy list (first + i)
+  part-held i below = getD-take count (drop first list) i (pos 0) below ∙ getD-drop first list i (pos 0)
+
+  -- the sum over a part that is multiplied by the cosines from another place on
+  pub part-sum : (from k : ℕ) → partSum (take count (drop first list)) from k ≡ sumTo count (λ i. heldBy list (first + i) *ℤ cosineOf k (from + i))
+  unfolding partSum
+  part-sum from k =
+      rw part-length (sumTo-same count _ _ (λ i below. ap (λ z. z *ℤ cosineOf k (from + i)) (part-held i below)))
+
+-- ---- the size of a line's numbers and of its sums
 
 module _ (folded wave : List ℤ) (prepared : Prepared folded wave) (k half : ℕ) (ends : EndsAt k half) where
   -- the numbers that the halving at half left
@@ -50,22 +64,20 @@ module _ (folded wave : List ℤ) (prepared : Prepared folded wave) (k half : �
       rw (held, ends .is-power)
       (foldedWindow-left (prepared .window) (prepared .in-range) (ends .power) (ends .few) p (rw (ends .is-power) at above) (rw (ends .is-power) at below))
 
-  module _ (p : ℕ) (from : suc half ≤ p) (to : p ≤ suc (2 * half)) where
-    pub cosine-small : natAbs (sumBefore half k (heldBy folded) p) < 2 ^ 58
-    cosine-small =
-        placeSum-le (suc half) (p - suc half) half k (heldBy folded) (half-pos k half ends) (omega arith)
-        (λ i below. left-small (suc half + i) (omega arith) (omega (arith, half-le k half ends)))
+  -- half of them in a row
+  pub left-light : (first : ℕ) → half < first → first + half ≤ 2049 - half → Light (take half (drop first folded))
+  left-light first above below i inside =
+      let room : first + half ≤ length folded = omega (arith, prepared .long, half-pos k half ends) in
+      let long = part-length folded first half room in
+      let here : i < half = rw long at inside in
+      rw (long, part-held folded first half room i here) (left-small (first + i) (omega arith) (omega arith))
 
-    pub sine-small : natAbs (sumBefore half k (ahead folded half) p) < 2 ^ 58
-    sine-small =
-        placeSum-le (suc half) (p - suc half) half k (ahead folded half) (half-pos k half ends) (omega arith)
-        (λ i below. left-small (suc half + i + sineAhead half) (omega (arith, half-le k half ends)) (omega (arith, half-le k half ends)))
-
-  -- all places of the sine
   pub sine-sum-small : natAbs (placeSum (suc half) half (ahead folded half) (cosineOf k)) < 2 ^ 58
+  unfolding placeSum
   sine-sum-small =
-      let all : suc (2 * half) - suc half ≡ half = omega arith in
-      rw all at (sine-small (suc (2 * half)) (omega arith) (omega arith))
+      light-sum-le half half (λ i. ahead folded half (suc half + i)) (λ i. cosineOf k (suc half + i)) (half-pos k half ends) (le-refl half)
+      (λ i. tableCosine-le ((suc half + i) * k))
+      (λ i below. left-small (suc half + i + sineAhead half) (omega (arith, half-le k half ends)) (omega (arith, half-le k half ends)))
 
 -- ---- the sine's sum over the cosine's places
 

@@ -138,14 +138,6 @@ module _ (first : ℕ) (wave : ℕ → ℤ) where
   unfolding placeSum
   placeSum-same count f g same = sumTo-same count _ _ (λ i below. ap (λ z. z *ℤ wave (first + i)) (same i below))
 
-  -- up to a place, and one place more
-  pub placeSum-more : (f : ℕ → ℤ) (p : ℕ) → first ≤ p → placeSum first (p - first) f wave +ℤ f p *ℤ wave p ≡ placeSum first (p + 1 - first) f wave
-  unfolding placeSum sumTo
-  placeSum-more f p from =
-      let place : first + (p - first) ≡ p = omega arith in
-      let count : p + 1 - first ≡ suc (p - first) = omega arith in
-      rw count (ap (λ q. placeSum first (p - first) f wave +ℤ f q *ℤ wave q) (sym place))
-
   -- the first place alone
   pub placeSum-first : (count : ℕ) (f : ℕ → ℤ) → placeSum first (suc count) f wave ≡ f first *ℤ wave first +ℤ placeSum (suc first) count f wave
   unfolding placeSum

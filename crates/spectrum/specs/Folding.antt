@@ -6,7 +6,7 @@ use mathlib.Core.Path.{_≡_}
 use Prim.Native.Nat.{ℕ, zero, suc, _+_, _-_, _*_, _%_, _^_, _≤_}
 use lib.Dec.{ltb}
 use lib.IntN.{ℤ, pos, natAbs, _+ℤ_, _-ℤ_, _*ℤ_}
-use lib.ListN.{getD}
+use lib.ListN.{getD, length}
 use Rattle.algebra.specs.Sums.{sumTo}
 use Rattle.sine.specs.Turn.{halfTurn, quarterTurn}
 use Rattle.sine.specs.Wave.{tableSine, tableCosine}
@@ -77,6 +77,10 @@ cosineOf k p = tableCosine (p * k)
 
 abbrev pub sineOf : ℕ → ℕ → ℤ
 sineOf k p = tableSine (p * k)
+
+-- the sum over a list, which is a part of a folded one that begins at the place first, of what it holds times the cosine of line k
+unfoldable pub partSum : List ℤ → ℕ → ℕ → ℤ
+partSum part first k = sumTo (length part) (λ i. heldBy part i *ℤ cosineOf k (first + i))
 
 -- ---- where a line's sums are found in a folded window
 

@@ -11,8 +11,8 @@ ghost use Rattle.algebra.specs.Integers.{square};
 ghost use Rattle.algebra.specs.Rounding.{nearestℤ};
 ghost use Rattle.sine.specs.Turn.{turn, quarterTurn};
 ghost use Rattle.spectrum.specs.Line.{lineLimit, sumScale};
-ghost use Rattle.spectrum.specs.Folding.{heldBy, placeSum, cosineOf, EndsAt, sineAhead};
-ghost use Rattle.spectrum.specs.Prepared.{Prepared, LineOfFolded};
+ghost use Rattle.spectrum.specs.Folding.{heldBy, placeSum, partSum, cosineOf, EndsAt, sineAhead};
+ghost use Rattle.spectrum.specs.Prepared.{Prepared, Parts, LineOfFolded};
 
 // What is added to an index for the cosine: a quarter turn.
 const COSINE_PHASE: usize = TURN / 4;
@@ -50,6 +50,28 @@ fn ending_half(k: usize) -> usize
     half
 }
 
+// The sums over two parts of a folded list: both parts are multiplied by the cosines from place `first` on.
+fn part_sums(cosines: &[i32], sines: &[i32], wave: &[i32; TURN], k: usize, first: usize) -> Sums
+    requires { ⌜ Parts (now cosines) (now sines) (now wave) first ⌝ }
+    requires { ⌜ k < lineLimit ⌝ }
+    ensures { λ r. ⌜ r .cosine ≡ partSum (now (cosines .entry)) first k ⌝ }
+    ensures { λ r. ⌜ r .sine ≡ partSum (now (sines .entry)) first k ⌝ }
+{
+    let mut cosine: i64 = 0;
+    let mut sine: i64 = 0;
+    let mut i = 0;
+    while i < cosines.len() {
+        let at = wave[sine::turn_index((first + i) * k + COSINE_PHASE)];
+        cosine = accumulate(cosine, cosines[i], at);
+        sine = accumulate(sine, sines[i], at);
+        i += 1;
+    }
+    Sums {
+        cosine: cosine,
+        sine: sine,
+    }
+}
+
 // The sums over the line's places. One cosine serves both: at the sine's place it is the sine, but for its sign.
 fn folded_sums(folded: &[i32], wave: &[i32; TURN], k: usize, half: usize) -> Sums
     requires { ⌜ Prepared (now folded) (now wave) ⌝ }
@@ -58,20 +80,15 @@ fn folded_sums(folded: &[i32], wave: &[i32; TURN], k: usize, half: usize) -> Sum
     ensures { λ r. ⌜ r .cosine ≡ placeSum (suc half) half (heldBy (now (folded .entry))) (cosineOf k) ⌝ }
     ensures { λ r. ⌜ r .sine ≡ placeSum (suc half) half (λ p. heldBy (now (folded .entry)) (p + sineAhead half)) (cosineOf k) ⌝ }
 {
-    let sine_ahead = WINDOW_LENGTH - 3 * half;
-    let mut cosine: i64 = 0;
-    let mut sine: i64 = 0;
-    let mut p = half + 1;
-    while p <= 2 * half {
-        let at = wave[sine::turn_index(p * k + COSINE_PHASE)];
-        cosine = accumulate(cosine, folded[p], at);
-        sine = accumulate(sine, folded[p + sine_ahead], at);
-        p += 1;
-    }
-    Sums {
-        cosine: cosine,
-        sine: sine,
-    }
+    let first = half + 1;
+    let sine_first = first + (WINDOW_LENGTH - 3 * half);
+    part_sums(
+        &folded[first..first + half],
+        &folded[sine_first..sine_first + half],
+        wave,
+        k,
+        first,
+    )
 }
 
 // The sine's sum with its sign, by the angle at the line's last halving: a quarter turn, or three of them.

@@ -1,155 +1,111 @@
--- `spectrum::sums::folded_sums` meets its contract. The loop's invariant: the sums are those over the places before p. The measure is what is left of the places.
+-- `spectrum::sums::folded_sums` meets its contract: the two parts that it lends lie in the folded list, hold what the line's halving left, and their sums are those over the line's places.
 use mathlib.Core.List.{List}
-use mathlib.Core.Path.{_≡_, refl, ap, ap₂, _∙_}
-use Prim.Native.Nat.{ℕ, suc, _+_, _*_, _-_, _%_, _<_, _≤_}
-use native.Mathlib.Nat.{mul-le-mul, le-of-lt, lt-of-lt-of-le}
+use mathlib.Core.Path.{_≡_, sym, ap, ap₂, _∙_}
+use Prim.Native.Nat.{ℕ, suc, _+_, _-_, _*_, _≤_}
+use native.Mathlib.Numerals.{add-one}
 use native.Mathlib.Omega.{arith}
 use borrow.Author.Needs.{needs}
-use lib.IntN.{ℤ, pos, _+ℤ_, _*ℤ_}
-use lib.ListN.{getD}
-use mir.Syntax.{w32, w64}
-use mir.Val.{toZ}
-use mir.ValLaws.{toZ-ofZ}
-use Rattle.algebra.specs.Sums.{sumTo}
-use Rattle.sine.specs.Turn.{turn, quarterTurn}
-use Rattle.sine.specs.Wave.{tableCosine, waveList}
-use Rattle.sine.proofs.Wave.{waveList-at-mod}
-use Rattle.spectrum.specs.Folding.{heldBy, placeSum, cosineOf}
-use Rattle.spectrum.proofs.FoldedPlaces.{placeSum-more}
-use Rattle.spectrum.proofs.FoldedLines.{ahead, sumBefore, half-le, cosine-small, sine-small}
+use lib.IntN.{ℤ, _*ℤ_}
+use lib.ListN.{length, take, drop}
+use Rattle.algebra.proofs.SumTo.{sumTo-same}
+use Rattle.spectrum.specs.Folding.{heldBy, placeSum, partSum, cosineOf, EndsAt, sineAhead}
+use Rattle.spectrum.specs.Prepared.{Prepared, Parts}
+use Rattle.spectrum.proofs.FoldedLines.{ahead, half-le, half-pos, part-length, part-sum, left-light}
 use Rattle.spectrum.proofs.sums.folded_sums.Statement.{statement}
 use Rattle.spectrum.proofs.sums.folded_sums.Tie as tie
 
-abbrev Inv-loop : tie.InvT-loop
-Inv-loop folded wave k half sine-ahead cosine₀ sine₀ p₀ cosine sine p =
-    (half ≤ 512) × (suc half ≤ p) × (p ≤ suc (2 * half))
-    × (toZ w64 cosine ≡ sumBefore half k (heldBy folded) p)
-    × (toZ w64 sine ≡ sumBefore half k (ahead folded half) p)
+-- a part as the machine cuts it out, by its two ends
+cut : (list : List ℤ) (first count : ℕ) → take (first + count - first) (drop first list) ≡ take count (drop first list)
+cut list first count = let width : first + count - first ≡ count = omega arith in rw width
 
-abbrev μ-loop : tie.MeasureT-loop
-μ-loop folded wave k half sine-ahead cosine₀ sine₀ p₀ cosine sine p = suc (2 * half) - p
+module _ (folded wave : List ℤ) (prepared : Prepared folded wave) (k half : ℕ) (ends : EndsAt k half) where
+  abbrev sineFirst : ℕ
+  sineFirst = half + 1 + sineAhead half
 
--- one more place, whose number and wave are read back from their bits
-sum-step :
-    (f : ℕ → ℤ) (wave : List ℤ) (k half p at : ℕ) (sum number cosine : ℤ) →
-    wave ≡ waveList →
-    at ≡ (p * k + quarterTurn) % turn →
-    suc half ≤ p →
-    sum ≡ sumBefore half k f p →
-    number ≡ f p →
-    cosine ≡ getD wave at (pos 0) →
-    sum +ℤ number *ℤ cosine ≡ sumBefore half k f (p + 1)
-unfolding tableCosine
-sum-step f wave k half p at sum number cosine w i from s n c =
-    ap₂ (λ a b. a +ℤ number *ℤ b) s (rw (w, i) at c ∙ waveList-at-mod (p * k + quarterTurn))
-    ∙ ap (λ a. sumBefore half k f p +ℤ a *ℤ cosineOf k p) n
-    ∙ placeSum-more (suc half) (cosineOf k) f p from
+  small : (half ≤ 512) × (1 ≤ half)
+  small = (half-le k half ends, half-pos k half ends)
 
-index-le : (p k half : ℕ) → half ≤ 512 → p ≤ suc (2 * half) → k < 1024 → p * k ≤ 1025 * 1024
-index-le p k half most to few = let place : p ≤ 1025 = omega arith in mul-le-mul place (le-of-lt few)
+  cosine-room : half + 1 + half ≤ length folded
+  cosine-room = omega (arith, prepared .long, small .0)
 
-most : (c : tie.Start Inv-loop μ-loop) → c .args .half ≤ 512
-most c = half-le (c .args .k) (c .args .half) (c .pre .1 .1)
+  sine-room : sineFirst + half ≤ length folded
+  sine-room = omega (arith, prepared .long, small .0, small .1)
 
-loop-holds : tie.Need-loop-holds Inv-loop μ-loop
-unfolding placeSum sumTo
-loop-holds c =
-    let a = c .args in
-    let none : a .half + 1 - suc (a .half) ≡ 0 = omega arith in (
-      most c,
-      omega arith,
-      omega arith,
-      rw none refl,
-      rw none refl,
-    )
+  two-parts : Parts (take half (drop (half + 1) folded)) (take half (drop sineFirst folded)) wave (half + 1)
+  two-parts =
+      let long = part-length folded (half + 1) half cosine-room in
+      record {
+        some = rw long (small .1);
+        same-length = part-length folded sineFirst half sine-room ∙ sym long;
+        places = rw long (omega (arith, small .0));
+        light-cosines = left-light folded wave prepared k half ends (half + 1) (omega arith) (omega (arith, small .0));
+        light-sines = left-light folded wave prepared k half ends sineFirst (omega (arith, small .0)) (omega (arith, small .0));
+        one-turn = prepared .one-turn;
+      }
 
-mul-turn-index : tie.Need-mul-turn-index Inv-loop μ-loop
-mul-turn-index c =
-    let at = c .before in
-    let start = at .before in
-    omega (arith, index-le (at .loop .p) (start .args .k) (start .args .half) (at .loop .inv .0) (at .loop .inv .2) (start .pre .1 .0))
+  cosine-sum : partSum (take half (drop (half + 1) folded)) (half + 1) k ≡ placeSum (suc half) half (heldBy folded) (cosineOf k)
+  unfolding placeSum
+  cosine-sum =
+      part-sum folded (half + 1) half cosine-room (half + 1) k
+      ∙ sumTo-same half _ _ (λ i below. ap (λ p. heldBy folded (p + i) *ℤ cosineOf k (p + i)) (add-one half))
 
-add-turn-index : tie.Need-add-turn-index Inv-loop μ-loop
-add-turn-index c =
-    let at = c .before in
-    let start = at .before in
-    omega (arith, index-le (at .loop .p) (start .args .k) (start .args .half) (at .loop .inv .0) (at .loop .inv .2) (start .pre .1 .0))
+  sine-sum : partSum (take half (drop sineFirst folded)) (half + 1) k ≡ placeSum (suc half) half (ahead folded half) (cosineOf k)
+  unfolding placeSum
+  sine-sum =
+      part-sum folded sineFirst half sine-room (half + 1) k
+      ∙ sumTo-same half _ _ (λ i below.
+      let place : sineFirst + i ≡ suc half + i + sineAhead half = omega arith in
+      ap₂ (λ p q. heldBy folded p *ℤ cosineOf k (q + i)) place (add-one half))
 
-accumulate-requires : tie.Need-accumulate-requires Inv-loop μ-loop
-accumulate-requires c κs =
-    let at = c .before .before .before .before in
-    let start = at .before in
-    let a = start .args in
-    rw (at .loop .inv .3)
-    (lt-of-lt-of-le
-    (cosine-small (a .folded .now) (a .wave .now) (start .pre .0) (a .k) (a .half) (start .pre .1 .1) (at .loop .p) (at .loop .inv .1) (at .loop .inv .2))
-    (omega arith))
-
-accumulate-requires-2 : tie.Need-accumulate-requires-2 Inv-loop μ-loop
-accumulate-requires-2 c κs =
-    let at = c .before .before .before .before .before .before in
-    let start = at .before in
-    let a = start .args in
-    rw (at .loop .inv .4)
-    (lt-of-lt-of-le
-    (sine-small (a .folded .now) (a .wave .now) (start .pre .0) (a .k) (a .half) (start .pre .1 .1) (at .loop .p) (at .loop .inv .1) (at .loop .inv .2))
-    (omega arith))
-
-loop-again : tie.Need-loop-again Inv-loop μ-loop
-loop-again c =
-    let second = c .before in
-    let first = second .before .before in
-    let read = first .before in
-    let at = read .before .before .before in
-    let start = at .before in
-    let index = read .before .turn-index .result in
+part-sums-requires : tie.Need-part-sums-requires
+part-sums-requires c κs =
+    let start = c .before .before in
     let a = start .args in (
-      at .loop .inv .0,
-      omega arith,
-      omega arith,
-      toZ-ofZ w64 _ (record { sfits = second .before .accumulate .ok })
-          ∙ second .before .accumulate .ensures
-          ∙ sum-step (heldBy (a .folded .now)) (a .wave .now) (a .k) (a .half) (at .loop .p) index _ _ _ (start .pre .0 .one-turn) (read .before .turn-index .ensures) (at .loop .inv .1) (at .loop .inv .3)
-          (toZ-ofZ w32 _ (record { sfits = first .accumulate-arg .given }))
-          (toZ-ofZ w32 _ (record { sfits = read .at .given })),
-      toZ-ofZ w64 _ (record { sfits = c .accumulate2 .ok })
-          ∙ c .accumulate2 .ensures
-          ∙ sum-step (ahead (a .folded .now) (a .half)) (a .wave .now) (a .k) (a .half) (at .loop .p) index _ _ _ (start .pre .0 .one-turn) (read .before .turn-index .ensures) (at .loop .inv .1) (at .loop .inv .4)
-          (toZ-ofZ w32 _ (record { sfits = second .accumulate-arg2 .given }))
-          (toZ-ofZ w32 _ (record { sfits = read .at .given })),
+      rw (cut (a .folded .now) (a .half + 1) (a .half), cut (a .folded .now) (a .half + 1 + sineAhead (a .half)) (a .half))
+          (two-parts (a .folded .now) (a .wave .now) (start .pre .0) (a .k) (a .half) (start .pre .1 .1)),
+      start .pre .1 .0,
     )
 
-returns : tie.Need-returns Inv-loop μ-loop
+returns : tie.Need-returns
 returns c =
-    let at = c .before in
-    let a = at .before .args in
-    let all : at .loop .p - suc (a .half) ≡ a .half = omega arith in
-    (rw all at (at .loop .inv .3), rw all at (at .loop .inv .4))
+    let start = c .before .before .before in
+    let a = start .args in
+    let list = a .folded .now in (
+      c .part-sums .ensures .0
+          ∙ ap (λ part. partSum part (a .half + 1) (a .k)) (cut list (a .half + 1) (a .half))
+          ∙ cosine-sum list (a .wave .now) (start .pre .0) (a .k) (a .half) (start .pre .1 .1),
+      c .part-sums .ensures .1
+          ∙ ap (λ part. partSum part (a .half + 1) (a .k)) (cut list (a .half + 1 + sineAhead (a .half)) (a .half))
+          ∙ sine-sum list (a .wave .now) (start .pre .0) (a .k) (a .half) (start .pre .1 .1),
+    )
+
+-- where the places that are counted with end
+cosine-end : (c : tie.Start) → c .args .half + 1 + c .args .half ≤ length (c .args .folded .now)
+cosine-end c = cosine-room (c .args .folded .now) (c .args .wave .now) (c .pre .0) (c .args .k) (c .args .half) (c .pre .1 .1)
+
+sine-end : (c : tie.Start) → c .args .half + 1 + sineAhead (c .args .half) + c .args .half ≤ length (c .args .folded .now)
+sine-end c = sine-room (c .args .folded .now) (c .args .wave .now) (c .pre .0) (c .args .k) (c .args .half) (c .pre .1 .1)
+
+most : (c : tie.Start) → c .args .half ≤ 512
+most c = half-le (c .args .k) (c .args .half) (c .pre .1 .1)
 
 pub folded-sums-spec : {M : Type 1} → statement M
 folded-sums-spec =
     tie.close
     (tie.spec
-    Inv-loop
-    μ-loop
+    (λ c. record { fits = omega (arith, most c) })
     (λ c. record { fits = omega (arith, most c) })
     (λ c. omega (arith, most c))
     (λ c. record { fits = omega (arith, most c) })
-    loop-holds
-    (λ c. search needs)
-    mul-turn-index
-    add-turn-index
-    (λ c κs. tt)
+    (λ c. record { fits = omega (arith, most c) })
+    (λ c. record { fits = omega (arith, most c) })
     (λ c. search needs)
     (λ c. search needs)
-    (λ c. omega arith)
-    (λ c. omega (arith, c .before .before .before .before .pre .0 .long))
-    accumulate-requires
-    (λ c. omega arith)
-    (λ c. omega arith)
-    (λ c. omega (arith, c .before .before .before .before .before .before .pre .0 .long))
-    accumulate-requires-2
-    (λ c. omega arith)
-    (λ c. omega arith)
-    loop-again
+    (λ c. cosine-end c)
+    (λ c. record { fits = omega (arith, most (c .before)) })
+    (λ c. record { fits = omega (arith, most (c .before)) })
+    (λ c. search needs)
+    (λ c. search needs)
+    (λ c. sine-end (c .before))
+    part-sums-requires
     returns)
