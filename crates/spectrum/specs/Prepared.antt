@@ -25,12 +25,12 @@ abbrev pub Light : List ℤ → Type 0
 Light part = (i : ℕ) → i < length part → natAbs (heldBy part i) * length part ≤ 2 * largestSample * 2 ^ 10
 
 -- two such parts of one length, not empty, and one turn of the table's sine; the places of the first part are at most 1,024
-pub record Parts (cosines sines wave : List ℤ) (first : ℕ) : Type 0 where
-  pub some : 1 ≤ length cosines
-  pub same-length : length sines ≡ length cosines
-  pub places : first + length cosines ≤ 1025
-  pub light-cosines : Light cosines
-  pub light-sines : Light sines
+pub record Parts (cosinePart sinePart wave : List ℤ) (first : ℕ) : Type 0 where
+  pub some : 1 ≤ length cosinePart
+  pub same-length : length sinePart ≡ length cosinePart
+  pub places : first + length cosinePart ≤ 1025
+  pub light-cosine : Light cosinePart
+  pub light-sine : Light sinePart
   pub one-turn : wave ≡ waveList
 
 -- a line, and some lines, of the window that was folded

@@ -51,25 +51,28 @@ fn ending_half(k: usize) -> usize
 }
 
 // The sums over two parts of a folded list: both parts are multiplied by the cosines from place `first` on.
-fn part_sums(cosines: &[i32], sines: &[i32], wave: &[i32; TURN], k: usize, first: usize) -> Sums
-    requires { ⌜ Parts (now cosines) (now sines) (now wave) first ⌝ }
+fn part_sums(
+    cosine_part: &[i32],
+    sine_part: &[i32],
+    wave: &[i32; TURN],
+    k: usize,
+    first: usize,
+) -> Sums
+    requires { ⌜ Parts (now «cosine_part») (now «sine_part») (now wave) first ⌝ }
     requires { ⌜ k < lineLimit ⌝ }
-    ensures { λ r. ⌜ r .cosine ≡ partSum (now (cosines .entry)) first k ⌝ }
-    ensures { λ r. ⌜ r .sine ≡ partSum (now (sines .entry)) first k ⌝ }
+    ensures { λ r. ⌜ r .cosine ≡ partSum (now («cosine_part» .entry)) first k ⌝ }
+    ensures { λ r. ⌜ r .sine ≡ partSum (now («sine_part» .entry)) first k ⌝ }
 {
     let mut cosine: i64 = 0;
     let mut sine: i64 = 0;
     let mut i = 0;
-    while i < cosines.len() {
-        let at = wave[sine::turn_index((first + i) * k + COSINE_PHASE)];
-        cosine = accumulate(cosine, cosines[i], at);
-        sine = accumulate(sine, sines[i], at);
+    while i < cosine_part.len() {
+        let factor = wave[sine::turn_index((first + i) * k + COSINE_PHASE)];
+        cosine = accumulate(cosine, cosine_part[i], factor);
+        sine = accumulate(sine, sine_part[i], factor);
         i += 1;
     }
-    Sums {
-        cosine: cosine,
-        sine: sine,
-    }
+    Sums { cosine, sine }
 }
 
 // The sums over the line's places. One cosine serves both: at the sine's place it is the sine, but for its sign.
@@ -108,8 +111,8 @@ fn sum_of_line_0(folded: &[i32], wave: &[i32; TURN]) -> i64
     requires { ⌜ Prepared (now folded) (now wave) ⌝ }
     ensures { λ r. ⌜ r ≡ placeSum 0 2 (heldBy (now (folded .entry))) (cosineOf 0) ⌝ }
 {
-    let at = wave[COSINE_PHASE];
-    accumulate(accumulate(0, folded[0], at), folded[1], at)
+    let factor = wave[COSINE_PHASE];
+    accumulate(accumulate(0, folded[0], factor), folded[1], factor)
 }
 
 // The square of A or B: of the sum divided by 2^29, to the nearest, halves up.

@@ -38,8 +38,8 @@ module _ (folded wave : List ℤ) (prepared : Prepared folded wave) (k half : �
         some = rw long (small .1);
         same-length = part-length folded sineFirst half sine-room ∙ sym long;
         places = rw long (omega (arith, small .0));
-        light-cosines = left-light folded wave prepared k half ends (half + 1) (omega arith) (omega (arith, small .0));
-        light-sines = left-light folded wave prepared k half ends sineFirst (omega (arith, small .0)) (omega (arith, small .0));
+        light-cosine = left-light folded wave prepared k half ends (half + 1) (omega arith) (omega (arith, small .0));
+        light-sine = left-light folded wave prepared k half ends sineFirst (omega (arith, small .0)) (omega (arith, small .0));
         one-turn = prepared .one-turn;
       }
 

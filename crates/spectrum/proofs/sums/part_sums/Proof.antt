@@ -26,13 +26,13 @@ abbrev sumOfFirst : ℕ → List ℤ → ℕ → ℕ → ℤ
 sumOfFirst n part first k = sumTo n (λ i. heldBy part i *ℤ cosineOf k (first + i))
 
 abbrev Inv-loop : tie.InvT-loop
-Inv-loop cosines sines wave k first cosine₀ sine₀ i₀ cosine sine i =
-    (i ≤ length cosines)
-    × (toZ w64 cosine ≡ sumOfFirst i cosines first k)
-    × (toZ w64 sine ≡ sumOfFirst i sines first k)
+Inv-loop cosine-part sine-part wave k first cosine₀ sine₀ i₀ cosine sine i =
+    (i ≤ length cosine-part)
+    × (toZ w64 cosine ≡ sumOfFirst i cosine-part first k)
+    × (toZ w64 sine ≡ sumOfFirst i sine-part first k)
 
 abbrev μ-loop : tie.MeasureT-loop
-μ-loop cosines sines wave k first cosine₀ sine₀ i₀ cosine sine i = length cosines - i
+μ-loop cosine-part sine-part wave k first cosine₀ sine₀ i₀ cosine sine i = length cosine-part - i
 
 -- the sums stay small on the way
 sum-small : (part : List ℤ) (first k n : ℕ) → 1 ≤ length part → n ≤ length part → Light part → natAbs (sumOfFirst n part first k) < 2 ^ 62
@@ -65,7 +65,7 @@ module _ (c : tie.In-loop Inv-loop μ-loop) where
 
   index-small : (start .args .first + c .before .loop .i) * start .args .k ≤ 1025 * 1024
   index-small =
-      index-le (start .args .first) (c .before .loop .i) (start .args .k) (length (start .args .cosines .now)) (start .pre .0 .places) (c .before .loop .inv .0) (start .pre .1)
+      index-le (start .args .first) (c .before .loop .i) (start .args .k) (length (start .args .cosine-part .now)) (start .pre .0 .places) (c .before .loop .inv .0) (start .pre .1)
 
 abbrev in-loop : tie.After-accumulate Inv-loop μ-loop → tie.In-loop Inv-loop μ-loop
 in-loop c = c .before .before .before .before
@@ -79,7 +79,7 @@ accumulate-requires c κs =
     let at = c .before .before .before .before in
     let a = at .before .args in
     let p = at .before .pre .0 in
-    rw (at .loop .inv .1) (sum-small (a .cosines .now) (a .first) (a .k) (at .loop .i) (p .some) (at .loop .inv .0) (p .light-cosines))
+    rw (at .loop .inv .1) (sum-small (a .cosine-part .now) (a .first) (a .k) (at .loop .i) (p .some) (at .loop .inv .0) (p .light-cosine))
 
 accumulate-requires-2 : tie.Need-accumulate-requires-2 Inv-loop μ-loop
 accumulate-requires-2 c κs =
@@ -87,7 +87,7 @@ accumulate-requires-2 c κs =
     let a = at .before .args in
     let p = at .before .pre .0 in
     rw (at .loop .inv .2)
-    (sum-small (a .sines .now) (a .first) (a .k) (at .loop .i) (rw (p .same-length) (p .some)) (rw (p .same-length) (at .loop .inv .0)) (p .light-sines))
+    (sum-small (a .sine-part .now) (a .first) (a .k) (at .loop .i) (rw (p .same-length) (p .some)) (rw (p .same-length) (at .loop .inv .0)) (p .light-sine))
 
 loop-again : tie.Need-loop-again Inv-loop μ-loop
 loop-again c =
@@ -101,14 +101,14 @@ loop-again c =
       omega arith,
       toZ-ofZ w64 _ (record { sfits = second .before .accumulate .ok })
           ∙ second .before .accumulate .ensures
-          ∙ sum-step (a .cosines .now) (a .wave .now) (a .k) (a .first) (at .loop .i) index _ _ _ (entry .pre .0 .one-turn) (read .before .turn-index .ensures) (at .loop .inv .1)
+          ∙ sum-step (a .cosine-part .now) (a .wave .now) (a .k) (a .first) (at .loop .i) index _ _ _ (entry .pre .0 .one-turn) (read .before .turn-index .ensures) (at .loop .inv .1)
           (toZ-ofZ w32 _ (record { sfits = first .accumulate-arg .given }))
-          (toZ-ofZ w32 _ (record { sfits = read .at .given })),
+          (toZ-ofZ w32 _ (record { sfits = read .factor .given })),
       toZ-ofZ w64 _ (record { sfits = c .accumulate2 .ok })
           ∙ c .accumulate2 .ensures
-          ∙ sum-step (a .sines .now) (a .wave .now) (a .k) (a .first) (at .loop .i) index _ _ _ (entry .pre .0 .one-turn) (read .before .turn-index .ensures) (at .loop .inv .2)
+          ∙ sum-step (a .sine-part .now) (a .wave .now) (a .k) (a .first) (at .loop .i) index _ _ _ (entry .pre .0 .one-turn) (read .before .turn-index .ensures) (at .loop .inv .2)
           (toZ-ofZ w32 _ (record { sfits = second .accumulate-arg2 .given }))
-          (toZ-ofZ w32 _ (record { sfits = read .at .given })),
+          (toZ-ofZ w32 _ (record { sfits = read .factor .given })),
     )
 
 returns : tie.Need-returns Inv-loop μ-loop
@@ -116,7 +116,7 @@ unfolding partSum
 returns c =
     let at = c .before in
     let a = at .before .args in
-    let all : at .loop .i ≡ length (a .cosines .now) = omega arith in
+    let all : at .loop .i ≡ length (a .cosine-part .now) = omega arith in
     (rw all at (at .loop .inv .1), rw (all ∙ sym (at .before .pre .0 .same-length)) at (at .loop .inv .2))
 
 pub part-sums-spec : {M : Type 1} → statement M

@@ -21,10 +21,10 @@ use Rattle.spectrum.proofs.sums.sum_of_line_0.Statement.{statement}
 use Rattle.spectrum.proofs.sums.sum_of_line_0.Tie as tie
 
 -- the cosine of 0, as the machine reads it from the wave
-the-cosine : (c : tie.After-at) → toZ w32 (ofZ w32 (getD (c .before .args .wave .now) 512 (pos 0))) ≡ tableCosine 0
+the-cosine : (c : tie.After-factor) → toZ w32 (ofZ w32 (getD (c .before .args .wave .now) 512 (pos 0))) ≡ tableCosine 0
 unfolding tableCosine
 the-cosine c =
-    toZ-ofZ w32 _ (record { sfits = c .at .given })
+    toZ-ofZ w32 _ (record { sfits = c .factor .given })
     ∙ ap (λ wave. getD wave 512 (pos 0)) (c .before .pre .one-turn)
     ∙ waveList-at 512 (omega arith)
 
