@@ -16,7 +16,7 @@ use Rattle.algebra.proofs.Integer.{natAbs-*ℤ, natAbs-+ℤ-le, natAbs-negℤ}
 use Rattle.algebra.proofs.SumTo.{sumTo-natAbs-le}
 use Rattle.sine.specs.Wave.{fullScale}
 use Rattle.spectrum.specs.Spectrum.{largestSample, outOfRange}
-use Rattle.spectrum.specs.Folding.{heldBy, Within, folded, paired, halved, halvedFrom, foldedWindow}
+use Rattle.spectrum.specs.Folding.{heldBy, largestFolded, Within, folded, paired, halved, halvedFrom, foldedWindow}
 use Rattle.spectrum.proofs.Bounds.{sample-le}
 use Rattle.spectrum.proofs.FoldedPlaces.{folded-after}
 use Rattle.spectrum.proofs.HalvedSums.{double, at-most-512, low-places, halvedFrom-keeps}
@@ -91,22 +91,22 @@ module _ (window : List ℤ) (in-range : anyOf outOfRange window ≡ false) wher
   pub paired-within : Within (2 * largestSample) (paired (heldBy window))
   paired-within = folded-within 1 2047 largestSample (heldBy window) (sample-le window in-range)
 
-  pub foldedWindow-within : Within (2 * largestSample * 2 ^ 10) (foldedWindow window)
+  pub foldedWindow-within : Within (largestFolded) (foldedWindow window)
   unfolding foldedWindow
   foldedWindow-within = halvedFrom-within 10 (omega arith) (2 * largestSample) (paired (heldBy window)) paired-within
 
-  pub foldedWindow-left : (c : ℕ) → c ≤ 9 → (p : ℕ) → 2 ^ c < p → p < 2049 - 2 ^ c → natAbs (foldedWindow window p) * 2 ^ c ≤ 2 * largestSample * 2 ^ 10
+  pub foldedWindow-left : (c : ℕ) → c ≤ 9 → (p : ℕ) → 2 ^ c < p → p < 2049 - 2 ^ c → natAbs (foldedWindow window p) * 2 ^ c ≤ largestFolded
   unfolding foldedWindow
   foldedWindow-left c few = left-within c 10 (omega arith) (omega arith) (2 * largestSample) (paired (heldBy window)) paired-within
 
 -- a sum over at most `count` numbers that, times count, are so small, is below 2^58, as document 01's sums are
 pub light-sum-le : (count n : ℕ) (f wave : ℕ → ℤ) → 1 ≤ count → n ≤ count → ((i : ℕ) → natAbs (wave i) ≤ fullScale) →
-    ((i : ℕ) → i < n → natAbs (f i) * count ≤ 2 * largestSample * 2 ^ 10) →
+    ((i : ℕ) → i < n → natAbs (f i) * count ≤ largestFolded) →
     natAbs (sumTo n (λ i. f i *ℤ wave i)) < 2 ^ 58
 light-sum-le count n f wave some few wave-le light =
-    let most = 2 * largestSample * 2 ^ 10 / count in
+    let most = largestFolded / count in
     let each : natAbs (sumTo n (λ i. f i *ℤ wave i)) ≤ n * (most * fullScale) =
     sumTo-natAbs-le n (most * fullScale) _
     (λ i below. rw natAbs-*ℤ (mul-le-mul (le-div-iff-mul-le some .1 (light i below)) (wave-le i))) in
-    let all : n * most ≤ 2 * largestSample * 2 ^ 10 = le-trans (mul-le-mul-right most few) (mul-div-le (2 * largestSample * 2 ^ 10) count) in
+    let all : n * most ≤ largestFolded = le-trans (mul-le-mul-right most few) (mul-div-le (largestFolded) count) in
     omega (arith, each, mul-le-mul-right fullScale all)

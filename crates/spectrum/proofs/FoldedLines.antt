@@ -22,8 +22,7 @@ use Rattle.sine.specs.Wave.{tableSine, tableCosine}
 use Rattle.sine.proofs.Symmetry.{tableSine-start}
 use Rattle.sine.proofs.Wave.{tableCosine-le}
 use Rattle.spectrum.specs.Line.{windowLength, lineSum, sumScale, roundedSum, lineOf}
-use Rattle.spectrum.specs.Spectrum.{largestSample}
-use Rattle.spectrum.specs.Folding.{heldBy, foldedWindow, placeSum, partSum, cosineOf, sineOf, EndsAt, sineAhead}
+use Rattle.spectrum.specs.Folding.{heldBy, largestFolded, foldedWindow, placeSum, partSum, cosineOf, sineOf, EndsAt, sineAhead}
 use Rattle.spectrum.specs.Prepared.{Prepared, Light}
 use Rattle.spectrum.proofs.LineWaves.{sine-is-cosine, sine-is-opposite}
 use Rattle.spectrum.proofs.HalvedSums.{at-most-512, folded-cosine, folded-sine, folded-0}
@@ -58,7 +57,7 @@ module _ (list : List ℤ) (first count : ℕ) (room : first + count ≤ length 
 
 module _ (folded wave : List ℤ) (prepared : Prepared folded wave) (k half : ℕ) (ends : EndsAt k half) where
   -- the numbers that the halving at half left
-  left-small : (p : ℕ) → half < p → p < 2049 - half → natAbs (heldBy folded p) * half ≤ 2 * largestSample * 2 ^ 10
+  left-small : (p : ℕ) → half < p → p < 2049 - half → natAbs (heldBy folded p) * half ≤ largestFolded
   left-small p above below =
       let held : heldBy folded p ≡ foldedWindow (prepared .window) p = ap (λ f. f p) (prepared .is-folded) in
       rw (held, ends .is-power)

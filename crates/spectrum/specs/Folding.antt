@@ -11,10 +11,15 @@ use Rattle.algebra.specs.Sums.{sumTo}
 use Rattle.sine.specs.Turn.{halfTurn, quarterTurn}
 use Rattle.sine.specs.Wave.{tableSine, tableCosine}
 use Rattle.spectrum.specs.Line.{windowLength}
+use Rattle.spectrum.specs.Spectrum.{largestSample}
 
 -- what a list holds at a place, and 0 past its end
 abbrev pub heldBy : List ℤ → ℕ → ℤ
 heldBy list p = getD list p (pos 0)
+
+-- the last place of a window
+abbrev pub lastPlace : ℕ
+lastPlace = windowLength - 1
 
 -- no number above the bound
 abbrev pub Within : ℕ → (ℕ → ℤ) → Type 0
@@ -52,11 +57,11 @@ folded first last f p =
 
 -- the pairs: sums at the places 1..1023, differences at 1025..2047
 abbrev pub paired : (ℕ → ℤ) → ℕ → ℤ
-paired = folded 1 2047
+paired = folded 1 lastPlace
 
 -- the cosine's places 0..2·half and the sine's last 2·half − 1 places, each folded
 unfoldable pub halved : ℕ → (ℕ → ℤ) → ℕ → ℤ
-halved half f = folded (2049 - 2 * half) 2047 (folded 0 (2 * half) f)
+halved half f = folded (windowLength + 1 - 2 * half) lastPlace (folded 0 (2 * half) f)
 
 -- halved at 2^(d − 1), 2^(d − 2), .. 1
 unfoldable pub halvedFrom : ℕ → (ℕ → ℤ) → ℕ → ℤ
@@ -66,6 +71,10 @@ halvedFrom (suc d) f = halvedFrom d (halved (2 ^ d) f)
 -- a window folded as far as the table's symmetries go: the pairs, and then halved from 512 on
 unfoldable pub foldedWindow : List ℤ → ℕ → ℤ
 foldedWindow window = halvedFrom 10 (paired (heldBy window))
+
+-- no number of a folded window in range is above it: each is made of samples, all 2,048 at most
+abbrev pub largestFolded : ℕ
+largestFolded = windowLength * largestSample
 
 -- the sum over some places, the first of which is given, of what they hold times a wave there
 unfoldable pub placeSum : ℕ → ℕ → (ℕ → ℤ) → (ℕ → ℤ) → ℤ
@@ -84,7 +93,7 @@ partSum part first k = sumTo (length part) (λ i. heldBy part i *ℤ cosineOf k 
 
 -- ---- where a line's sums are found in a folded window
 
--- line k ends at the halving at half: a power of two, and half × k is an odd number of quarter turns. Its cosine's places are half + 1 .. 2·half, and its sine's are so much ahead of them.
+-- line k ends at the halving at half: a power of two, and half × k is an odd number of quarter turns. Its cosine's places are half + 1 .. 2·half; each of its sine's is `sineAhead half` after one of them.
 pub record EndsAt (k half : ℕ) : Type 0 where
   pub power : ℕ
   pub few : power ≤ 9

@@ -2,15 +2,15 @@
 use mathlib.Core.Bool.{Bool, false}
 use mathlib.Core.List.{List}
 use mathlib.Core.Path.{_≡_}
-use Prim.Native.Nat.{ℕ, _+_, _*_, _^_, _<_, _≤_}
+use Prim.Native.Nat.{ℕ, _+_, _*_, _<_, _≤_}
 use lib.IntN.{ℤ, natAbs}
 use lib.ListN.{length}
 use Rattle.algebra.specs.Lists.{anyOf}
 use Rattle.refusals.specs.Answers.{firstFault, unlessRefused}
 use Rattle.sine.specs.Wave.{waveList}
 use Rattle.spectrum.specs.Line.{windowLength, windowAt, lineOf, linesFrom}
-use Rattle.spectrum.specs.Folding.{heldBy, foldedWindow}
-use Rattle.spectrum.specs.Spectrum.{largestSample, outOfRange, windowChecks}
+use Rattle.spectrum.specs.Folding.{heldBy, foldedWindow, largestFolded}
+use Rattle.spectrum.specs.Spectrum.{outOfRange, windowChecks}
 
 -- a window in range, folded, and one turn of the table's sine
 pub record Prepared (folded wave : List ℤ) : Type 0 where
@@ -22,7 +22,7 @@ pub record Prepared (folded wave : List ℤ) : Type 0 where
 
 -- a part of a folded list whose numbers, times how many they are, are so small that no sum over it passes 2^58
 abbrev pub Light : List ℤ → Type 0
-Light part = (i : ℕ) → i < length part → natAbs (heldBy part i) * length part ≤ 2 * largestSample * 2 ^ 10
+Light part = (i : ℕ) → i < length part → natAbs (heldBy part i) * length part ≤ largestFolded
 
 -- two such parts of one length, not empty, and one turn of the table's sine; the places of the first part are at most 1,024
 pub record Parts (cosinePart sinePart wave : List ℤ) (first : ℕ) : Type 0 where

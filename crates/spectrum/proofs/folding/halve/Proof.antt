@@ -8,15 +8,11 @@ use lib.IntN.{ℤ}
 use lib.ListN.{length}
 use lib.Pow.{pow-pos}
 use Rattle.spectrum.specs.Spectrum.{largestSample}
-use Rattle.spectrum.specs.Folding.{heldBy, Within, folded, halved, halvedFrom}
+use Rattle.spectrum.specs.Folding.{heldBy, Within, largestFolded, folded, halved, halvedFrom}
 use Rattle.spectrum.proofs.HalvedSums.{double}
 use Rattle.spectrum.proofs.FoldedBounds.{within-same, folded-within, halved-within}
 use Rattle.spectrum.proofs.folding.halve.Statement.{statement}
 use Rattle.spectrum.proofs.folding.halve.Tie as tie
-
--- the largest number that a folded list can hold
-abbrev largest : ℕ
-largest = 2 * largestSample * 2 ^ 10
 
 -- a list f that is still to be halved at a span, on the way from g
 pub record ToHalve (g : ℕ → ℤ) (span : ℕ) (f : ℕ → ℤ) : Type 0 where
@@ -25,10 +21,10 @@ pub record ToHalve (g : ℕ → ℤ) (span : ℕ) (f : ℕ → ℤ) : Type 0 whe
   pub whole : halvedFrom power f ≡ halvedFrom 10 g
   pub bound : ℕ
   pub within : Within bound f
-  pub small : bound * span ≤ largest
+  pub small : bound * span ≤ largestFolded
 
 module _ (g : ℕ → ℤ) (span : ℕ) (f : ℕ → ℤ) (left : ToHalve g span f) (some : 1 ≤ span) where
-  bound-le : left .bound ≤ largest
+  bound-le : left .bound ≤ largestFolded
   bound-le = omega (arith, left .small, mul-le-mul-left (left .bound) some)
 
   -- the numbers stay small enough to be folded
