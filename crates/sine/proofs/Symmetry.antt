@@ -1,5 +1,5 @@
--- The exact symmetries of the table's sine (card 13 rests on them): two indices that add up to half a turn have the same value, and two that add up to a whole turn opposite ones.
--- They hold of every wave that is made of a quarter which begins with 0; the others follow from the two.
+-- The exact symmetries of the table's sine, on which card 13 rests: two indices that add up to half a turn have the same value, two that add up to a whole turn opposite ones, and half a turn more changes the sign.
+-- They hold of every wave that is made of a quarter which begins with 0.
 use mathlib.Core.Path.{_≡_, refl, sym, ap, _∙_}
 use mathlib.Core.Logic.{⊎-elim}
 use Prim.Native.Nat.{ℕ, _+_, _-_, _*_, _%_, _≤_, _<_}
@@ -85,8 +85,8 @@ module _ (f : ℕ → ℕ) where
         (mirrored-early a b sum)
         (le-or-lt halfTurn (a % turn))
 
-    overTurn-opposite : (a b : ℕ) → (a + b) % turn ≡ 0 → overTurn f a ≡ negℤ (overTurn f b)
-    overTurn-opposite a b sum = overTurn-mirrored a (b + halfTurn) (omega arith) ∙ overTurn-half b
+    overTurn-odd : (a b : ℕ) → (a + b) % turn ≡ 0 → overTurn f a ≡ negℤ (overTurn f b)
+    overTurn-odd a b sum = overTurn-mirrored a (b + halfTurn) (omega arith) ∙ overTurn-half b
 
 -- ---- the table
 
@@ -94,14 +94,14 @@ table-begins : tableEntry 0 ≡ 0
 unfolding tableEntry nearest quarterSine denominator added takenAway term factorial
 table-begins = refl
 
--- the sine of half a turn less, and of a whole turn less
+-- the sine at half a turn less the index, and at a whole turn less the index
 pub tableSine-mirrored : (a b : ℕ) → (a + b) % turn ≡ halfTurn → tableSine a ≡ tableSine b
 unfolding tableSine
 tableSine-mirrored = overTurn-mirrored tableEntry table-begins
 
-pub tableSine-opposite : (a b : ℕ) → (a + b) % turn ≡ 0 → tableSine a ≡ negℤ (tableSine b)
+pub tableSine-odd : (a b : ℕ) → (a + b) % turn ≡ 0 → tableSine a ≡ negℤ (tableSine b)
 unfolding tableSine
-tableSine-opposite = overTurn-opposite tableEntry table-begins
+tableSine-odd = overTurn-odd tableEntry table-begins
 
 pub tableSine-start : (i : ℕ) → i % halfTurn ≡ 0 → tableSine i ≡ pos 0
 unfolding tableSine
@@ -120,11 +120,11 @@ tableSine-half = overTurn-half tableEntry
 -- the same of the cosine, which is a quarter turn ahead
 pub tableCosine-mirrored : (a b : ℕ) → (a + b) % turn ≡ halfTurn → tableCosine a ≡ negℤ (tableCosine b)
 unfolding tableCosine
-tableCosine-mirrored a b sum = tableSine-opposite (a + quarterTurn) (b + quarterTurn) (omega arith)
+tableCosine-mirrored a b sum = tableSine-odd (a + quarterTurn) (b + quarterTurn) (omega arith)
 
-pub tableCosine-opposite : (a b : ℕ) → (a + b) % turn ≡ 0 → tableCosine a ≡ tableCosine b
+pub tableCosine-even : (a b : ℕ) → (a + b) % turn ≡ 0 → tableCosine a ≡ tableCosine b
 unfolding tableCosine
-tableCosine-opposite a b sum = tableSine-mirrored (a + quarterTurn) (b + quarterTurn) (omega arith)
+tableCosine-even a b sum = tableSine-mirrored (a + quarterTurn) (b + quarterTurn) (omega arith)
 
 pub tableCosine-quarter : (i : ℕ) → i % halfTurn ≡ quarterTurn → tableCosine i ≡ pos 0
 unfolding tableCosine

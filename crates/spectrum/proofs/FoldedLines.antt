@@ -23,10 +23,10 @@ use Rattle.sine.proofs.Symmetry.{tableSine-start}
 use Rattle.sine.proofs.Wave.{tableCosine-le}
 use Rattle.spectrum.specs.Line.{windowLength, lineSum, sumScale, roundedSum, lineOf}
 use Rattle.spectrum.specs.Folding.{heldBy, largestFolded, foldedWindow, placeSum, partSum, cosineOf, sineOf, EndsAt, sineAhead}
-use Rattle.spectrum.specs.Prepared.{Prepared, Light}
+use Rattle.spectrum.specs.Prepared.{Prepared, SumFits}
 use Rattle.spectrum.proofs.LineWaves.{sine-is-cosine, sine-is-opposite}
 use Rattle.spectrum.proofs.HalvedSums.{at-most-512, folded-cosine, folded-sine, folded-0}
-use Rattle.spectrum.proofs.FoldedBounds.{foldedWindow-left, light-sum-le}
+use Rattle.spectrum.proofs.FoldedBounds.{foldedWindow-left, sumFits-le}
 
 -- what the sine's sum takes at the cosine's place
 abbrev pub ahead : List ℤ → ℕ → ℕ → ℤ
@@ -64,8 +64,8 @@ module _ (folded wave : List ℤ) (prepared : Prepared folded wave) (k half : �
       (foldedWindow-left (prepared .window) (prepared .in-range) (ends .power) (ends .few) p (rw (ends .is-power) at above) (rw (ends .is-power) at below))
 
   -- half of them in a row
-  pub left-light : (first : ℕ) → half < first → first + half ≤ 2049 - half → Light (take half (drop first folded))
-  left-light first above below i inside =
+  pub left-fits : (first : ℕ) → half < first → first + half ≤ 2049 - half → SumFits (take half (drop first folded))
+  left-fits first above below i inside =
       let room : first + half ≤ length folded = omega (arith, prepared .long, half-pos k half ends) in
       let long = part-length folded first half room in
       let here : i < half = rw long at inside in
@@ -74,7 +74,7 @@ module _ (folded wave : List ℤ) (prepared : Prepared folded wave) (k half : �
   pub sine-sum-small : natAbs (placeSum (suc half) half (ahead folded half) (cosineOf k)) < 2 ^ 58
   unfolding placeSum
   sine-sum-small =
-      light-sum-le half half (λ i. ahead folded half (suc half + i)) (λ i. cosineOf k (suc half + i)) (half-pos k half ends) (le-refl half)
+      sumFits-le half half (λ i. ahead folded half (suc half + i)) (λ i. cosineOf k (suc half + i)) (half-pos k half ends) (le-refl half)
       (λ i. tableCosine-le ((suc half + i) * k))
       (λ i below. left-small (suc half + i + sineAhead half) (omega (arith, half-le k half ends)) (omega (arith, half-le k half ends)))
 

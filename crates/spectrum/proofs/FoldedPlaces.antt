@@ -147,6 +147,11 @@ module _ (first : ℕ) (wave : ℕ → ℤ) where
       (ap (λ p. f p *ℤ wave p) (add-zero first))
       (sumTo-same count _ _ (λ i below. let next : first + suc i ≡ suc first + i = omega arith in ap (λ p. f p *ℤ wave p) next))
 
+  -- the last place alone
+  pub placeSum-last : (count : ℕ) (f : ℕ → ℤ) → placeSum first (suc count) f wave ≡ placeSum first count f wave +ℤ f (first + count) *ℤ wave (first + count)
+  unfolding placeSum sumTo
+  placeSum-last count f = refl
+
   -- a place where the wave is 0 may be left out
   pub placeSum-rest : (count : ℕ) (f : ℕ → ℤ) → wave first ≡ pos 0 → placeSum first (suc count) f wave ≡ placeSum (suc first) count f wave
   placeSum-rest count f none =
@@ -159,16 +164,16 @@ module _ (first : ℕ) (wave : ℕ → ℤ) where
 -- ---- the laws: between first and last, n places on either side of the middle, a wave that is the same at mirrored places leaves the lower half, and one that is opposite the upper half, each with the middle
 
 module _ (first n middle last : ℕ) (is-middle : middle ≡ first + n) (is-last : last ≡ first + 2 * n) (f wave : ℕ → ℤ) where
-  -- a pair's two summands
-  abbrev pub pair : ℕ → ℤ
-  pair i = f (first + i) *ℤ wave (first + i) +ℤ f (last - i) *ℤ wave (last - i)
+  -- the two summands of a pair
+  abbrev pairSummands : ℕ → ℤ
+  pairSummands i = f (first + i) *ℤ wave (first + i) +ℤ f (last - i) *ℤ wave (last - i)
 
-  pub placeSum-pairs : placeSum first (2 * n + 1) f wave ≡ sumTo n pair +ℤ f middle *ℤ wave middle
+  placeSum-pairs : placeSum first (2 * n + 1) f wave ≡ sumTo n pairSummands +ℤ f middle *ℤ wave middle
   unfolding placeSum
   placeSum-pairs =
       sumTo-pairs n (λ i. f (first + i) *ℤ wave (first + i))
       ∙ ap₂ _+ℤ_
-      (sumTo-same n _ pair (λ i below.
+      (sumTo-same n _ pairSummands (λ i below.
       let mirrored : first + (2 * n - i) ≡ last - i = omega arith in
       ap (λ p. f (first + i) *ℤ wave (first + i) +ℤ f p *ℤ wave p) mirrored))
       (ap (λ p. f p *ℤ wave p) (sym is-middle))
@@ -181,7 +186,7 @@ module _ (first n middle last : ℕ) (is-middle : middle ≡ first + n) (is-last
   fold-same same =
       placeSum-pairs
       ∙ ap₂ _+ℤ_
-      (sumTo-same n pair _ (λ i below.
+      (sumTo-same n pairSummands _ (λ i below.
       let mirrored : first + last - (first + i) ≡ last - i = omega arith in
       let low = folded-low first last f (first + i) (omega arith) (omega arith) in
       rw (low, mirrored, same i below) (sym (+ℤ-*ℤ (f (first + i)) (f (last - i)) (wave (first + i))))))
@@ -191,7 +196,7 @@ module _ (first n middle last : ℕ) (is-middle : middle ≡ first + n) (is-last
   unfolding placeSum
   fold-opposite opposite =
       placeSum-pairs
-      ∙ +ℤ-comm (sumTo n pair) (f middle *ℤ wave middle)
+      ∙ +ℤ-comm (sumTo n pairSummands) (f middle *ℤ wave middle)
       ∙ ap₂ _+ℤ_ (ap (λ z. z *ℤ wave middle) (sym kept)) upper
       ∙ sym (placeSum-first middle wave n (folded first last f))
     where
@@ -200,9 +205,9 @@ module _ (first n middle last : ℕ) (is-middle : middle ≡ first + n) (is-last
           let x = variable 0 in let y = variable 1 in let z = variable 2 in
           ring (x ⊗ z ⊕ y ⊗ ⊝ z) ((y ⊖ x) ⊗ ⊝ z) tt (a ∷ b ∷ w ∷ [])
 
-      upper : sumTo n pair ≡ placeSum (suc middle) n (folded first last f) wave
+      upper : sumTo n pairSummands ≡ placeSum (suc middle) n (folded first last f) wave
       upper =
-          sumTo-same n pair _ (λ i below.
+          sumTo-same n pairSummands _ (λ i below.
           let place : suc middle + (n - suc i) ≡ last - i = omega arith in
           let mirrored : first + last - (last - i) ≡ first + i = omega arith in
           let high = folded-high first last f (last - i) (omega arith) (omega arith) in

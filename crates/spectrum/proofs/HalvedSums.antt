@@ -1,9 +1,9 @@
--- Halving changes no sum (card 13): one halving, for a line that goes on and for one that ends with it, at any half length; and all of them, so that the sums over a folded window are document 01's.
+-- Halving changes no sum (card 13): one halving, for a line that goes on and for one that ends with it, at any half length up to 512; and all of them, so that the sums over a folded window are document 01's.
 use mathlib.Core.List.{List}
 use mathlib.Core.Logic.{⊎-elim}
 use mathlib.Core.Path.{_≡_, refl, sym, ap, _∙_}
 use Prim.Native.Nat.{ℕ, zero, suc, _+_, _-_, _*_, _%_, _^_, _≤_, _<_}
-use native.Mathlib.Nat.{pow-suc, eq-or-lt-of-le, le-of-suc-le-suc, not-suc-le-zero}
+use native.Mathlib.Nat.{pow-succ', eq-or-lt-of-le, le-of-suc-le-suc, not-suc-le-zero}
 use native.Mathlib.Omega.{arith}
 use lib.IntN.{ℤ}
 use lib.Pow.{pow-pos, pow-mono}
@@ -14,7 +14,7 @@ use Rattle.spectrum.specs.Line.{lineSum}
 use Rattle.spectrum.specs.Folding.{heldBy, folded, paired, halved, halvedFrom, foldedWindow, placeSum, cosineOf, sineOf}
 use Rattle.spectrum.proofs.FoldedPlaces.{folded-before, folded-after, placeSum-same, placeSum-rest, fold-same, fold-opposite}
 use Rattle.spectrum.proofs.LineWaves.{angles, cosine-same, cosine-opposite, sine-same, sine-opposite}
-use Rattle.spectrum.proofs.PairedSums.{cosine-paired, sine-paired}
+use Rattle.spectrum.proofs.PairedSums.{lineSum-paired-cosine, lineSum-paired-sine}
 
 -- ---- one halving
 
@@ -83,9 +83,6 @@ module _ (half k : ℕ) (some : 1 ≤ half) (most : half ≤ 512) (f : ℕ → �
 
 -- ---- all halvings
 
-pub double : (d : ℕ) → 2 ^ suc d ≡ 2 * 2 ^ d
-double d = let power = pow-suc 2 d in omega (arith, power)
-
 pub at-most-512 : (d : ℕ) → d ≤ 9 → 2 ^ d ≤ 512
 at-most-512 d few = pow-mono few
 
@@ -94,11 +91,11 @@ pub halvedFrom-keeps : (d : ℕ) → d ≤ 9 → (f : ℕ → ℤ) (p : ℕ) →
 unfolding halvedFrom halved
 halvedFrom-keeps zero few f p above below = refl
 halvedFrom-keeps (suc d) few f p above below =
-    halvedFrom-keeps d (omega arith) (halved (2 ^ d) f) p (omega (arith, double d)) (omega (arith, double d))
-    ∙ folded-before (2049 - 2 * 2 ^ d) 2047 (folded 0 (2 * 2 ^ d) f) p (omega (arith, double d))
-    ∙ folded-after 0 (2 * 2 ^ d) f p (omega (arith, double d))
+    halvedFrom-keeps d (omega arith) (halved (2 ^ d) f) p (omega (arith, pow-succ' 2 d)) (omega (arith, pow-succ' 2 d))
+    ∙ folded-before (2049 - 2 * 2 ^ d) 2047 (folded 0 (2 * 2 ^ d) f) p (omega (arith, pow-succ' 2 d))
+    ∙ folded-after 0 (2 * 2 ^ d) f p (omega (arith, pow-succ' 2 d))
 
--- a sum R over the places that are still to be halved at 2^d is the sum E over those that the halving at 2^c leaves, if each halving before hands it on, that one ends it, and the later ones keep what it left
+-- a sum R over 2^d places, which are halved next, is the sum E over those that the halving at 2^c leaves, if each halving before hands it on, that one ends it, and the later ones keep what it left
 module _ (c : ℕ) (R : ℕ → (ℕ → ℤ) → ℤ) (E : (ℕ → ℤ) → ℤ)
     (on : (d : ℕ) → c < d → d ≤ 9 → (f : ℕ → ℤ) → R (suc d) f ≡ R d (halved (2 ^ d) f))
     (end : (f : ℕ → ℤ) → R (suc c) f ≡ E (halved (2 ^ c) f))
@@ -121,7 +118,7 @@ module _ (c k : ℕ) (few : c ≤ 9) (odd : (2 ^ c * k) % halfTurn ≡ quarterTu
   even-before : (d : ℕ) → c < d → (2 ^ d * k) % halfTurn ≡ 0
   even-before zero after = absurd (not-suc-le-zero after)
   even-before (suc d) after =
-      let twice = ap (λ n. n * k) (double d) in
+      let twice = ap (λ n. n * k) (pow-succ' 2 d) in
       ⊎-elim
       (λ (here : c ≡ d). let same = ap (λ n. 2 ^ n * k) here in omega (arith, twice, same, odd))
       (λ (later : c < d). let before = even-before d later in omega (arith, twice, before))
@@ -135,37 +132,37 @@ module _ (c k : ℕ) (few : c ≤ 9) (odd : (2 ^ c * k) % halfTurn ≡ quarterTu
   cosine-ends =
       ends c (λ d f. placeSum 0 (suc (2 ^ d)) f (cosineOf k)) (λ f. placeSum (suc half) half f (cosineOf k))
       (λ d after few f.
-      let count : suc (2 ^ suc d) ≡ 2 * 2 ^ d + 1 = omega (arith, double d) in
+      let count : suc (2 ^ suc d) ≡ 2 * 2 ^ d + 1 = omega (arith, pow-succ' 2 d) in
       rw count (cosine-on (2 ^ d) k (pow-pos d) (at-most-512 d few) f (even-before d after)))
       (λ f.
-      let count : suc (2 ^ suc c) ≡ 2 * half + 1 = omega (arith, double c) in
+      let count : suc (2 ^ suc c) ≡ 2 * half + 1 = omega (arith, pow-succ' 2 c) in
       rw count (cosine-end half k (pow-pos c) (at-most-512 c few) f odd))
       (λ f. kept-places (suc half) (omega arith) (omega (arith, at-most-512 c few)) f (cosineOf k))
 
   pub sine-ends : (d : ℕ) → c < d → d ≤ 10 → (f : ℕ → ℤ) → placeSum (2049 - 2 ^ d) (2 ^ d - 1) f (sineOf k) ≡ placeSum (2049 - 2 * half) half (halvedFrom d f) (sineOf k)
   sine-ends =
       ends c (λ d f. placeSum (2049 - 2 ^ d) (2 ^ d - 1) f (sineOf k)) (λ f. placeSum (2049 - 2 * half) half f (sineOf k))
-      (λ d after few f. rw (double d) (sine-on (2 ^ d) k (pow-pos d) (at-most-512 d few) f (even-before d after)))
-      (λ f. rw (double c) (sine-end half k (pow-pos c) (at-most-512 c few) f odd))
+      (λ d after few f. rw (pow-succ' 2 d) (sine-on (2 ^ d) k (pow-pos d) (at-most-512 d few) f (even-before d after)))
+      (λ f. rw (pow-succ' 2 c) (sine-end half k (pow-pos c) (at-most-512 c few) f odd))
       (λ f. kept-places (2049 - 2 * half) (omega (arith, at-most-512 c few)) (omega (arith, at-most-512 c few)) f (sineOf k))
 
   -- so the sums over a folded window are document 01's
   pub folded-cosine : (window : List ℤ) → placeSum (suc half) half (foldedWindow window) (cosineOf k) ≡ lineSum tableCosine window k
   unfolding foldedWindow
-  folded-cosine window = sym (cosine-paired window k ∙ cosine-ends 10 (omega arith) (omega arith) (paired (heldBy window)))
+  folded-cosine window = sym (lineSum-paired-cosine window k ∙ cosine-ends 10 (omega arith) (omega arith) (paired (heldBy window)))
 
   pub folded-sine : (window : List ℤ) → placeSum (2049 - 2 * half) half (foldedWindow window) (sineOf k) ≡ lineSum tableSine window k
   unfolding foldedWindow
-  folded-sine window = sym (sine-paired window k ∙ sine-ends 10 (omega arith) (omega arith) (paired (heldBy window)))
+  folded-sine window = sym (lineSum-paired-sine window k ∙ sine-ends 10 (omega arith) (omega arith) (paired (heldBy window)))
 
 -- line 0 has no end: the two places that are left after all halvings
 pub folded-0 : (window : List ℤ) → placeSum 0 2 (foldedWindow window) (cosineOf 0) ≡ lineSum tableCosine window 0
 unfolding foldedWindow halvedFrom
-folded-0 window = sym (cosine-paired window 0 ∙ goes-on 10 (omega arith) (paired (heldBy window)))
+folded-0 window = sym (lineSum-paired-cosine window 0 ∙ goes-on 10 (omega arith) (paired (heldBy window)))
   where
     goes-on : (d : ℕ) → d ≤ 10 → (f : ℕ → ℤ) → placeSum 0 (suc (2 ^ d)) f (cosineOf 0) ≡ placeSum 0 2 (halvedFrom d f) (cosineOf 0)
     goes-on zero few f = refl
     goes-on (suc d) few f =
-        let count : suc (2 ^ suc d) ≡ 2 * 2 ^ d + 1 = omega (arith, double d) in
+        let count : suc (2 ^ suc d) ≡ 2 * 2 ^ d + 1 = omega (arith, pow-succ' 2 d) in
         rw count (cosine-on (2 ^ d) 0 (pow-pos d) (at-most-512 d (omega arith)) f (omega arith))
         ∙ goes-on d (omega arith) (halved (2 ^ d) f)

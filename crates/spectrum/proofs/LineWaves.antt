@@ -5,7 +5,7 @@ use native.Mathlib.Omega.{arith}
 use lib.IntN.{negℤ}
 use Rattle.sine.specs.Turn.{turn, halfTurn, quarterTurn}
 use Rattle.sine.specs.Wave.{tableCosine}
-use Rattle.sine.proofs.Symmetry.{tableSine-mirrored, tableSine-opposite, tableSine-turns, tableSine-half, tableCosine-mirrored, tableCosine-opposite}
+use Rattle.sine.proofs.Symmetry.{tableSine-mirrored, tableSine-odd, tableSine-turns, tableSine-half, tableCosine-mirrored, tableCosine-even}
 use Rattle.spectrum.specs.Folding.{cosineOf, sineOf, sineAhead}
 
 -- ---- at two places that add up to m
@@ -15,7 +15,7 @@ module _ (k p q m : ℕ) (sum : p + q ≡ m) where
   angles = let product : (p + q) * k ≡ m * k = ap (λ n. n * k) sum in omega (arith, product)
 
   pub cosine-same : (m * k) % turn ≡ 0 → cosineOf k p ≡ cosineOf k q
-  cosine-same h = tableCosine-opposite (p * k) (q * k) (rw angles h)
+  cosine-same h = tableCosine-even (p * k) (q * k) (rw angles h)
 
   pub cosine-opposite : (m * k) % turn ≡ halfTurn → cosineOf k p ≡ negℤ (cosineOf k q)
   cosine-opposite h = tableCosine-mirrored (p * k) (q * k) (rw angles h)
@@ -24,7 +24,7 @@ module _ (k p q m : ℕ) (sum : p + q ≡ m) where
   sine-same h = tableSine-mirrored (p * k) (q * k) (rw angles h)
 
   pub sine-opposite : (m * k) % turn ≡ 0 → sineOf k p ≡ negℤ (sineOf k q)
-  sine-opposite h = tableSine-opposite (p * k) (q * k) (rw angles h)
+  sine-opposite h = tableSine-odd (p * k) (q * k) (rw angles h)
 
 -- ---- the sine by the cosine: where half × k is a quarter turn or three of them, the sine at a place is, but for its sign, the cosine at the place that lies `sineAhead half` before it
 

@@ -4,16 +4,16 @@ use mathlib.Core.Path.{_≡_, refl, sym, ap, ap₂, _∙_}
 use Prim.Native.Nat.{ℕ, suc, _+_, _-_, _*_, _≤_}
 use native.Mathlib.Nat.{zero-add, zero-mul}
 use native.Mathlib.Omega.{arith}
-use lib.IntN.{ℤ, pos, negℤ, _+ℤ_, _-ℤ_, _*ℤ_, +ℤ-assoc}
+use lib.IntN.{ℤ, negℤ, _+ℤ_, _-ℤ_, _*ℤ_, +ℤ-assoc}
 use Rattle.algebra.specs.Sums.{sumTo}
-use Rattle.algebra.proofs.Integer.{+ℤ-*ℤ, +ℤ-right-comm}
-use Rattle.algebra.proofs.Ring.{variable, constant, _⊕_, _⊖_, _⊗_, ⊝_, ring}
-use Rattle.algebra.proofs.SumTo.{sumTo-same}
+use Rattle.algebra.proofs.Integer.{+ℤ-right-comm}
+use Rattle.algebra.proofs.Ring.{variable, _⊖_, _⊗_, ⊝_, ring}
+use Rattle.algebra.proofs.SumTo.{sumTo-same, sumTo-reversed}
 use Rattle.sine.specs.Wave.{tableSine, tableCosine}
 use Rattle.sine.proofs.Symmetry.{tableSine-start}
 use Rattle.spectrum.specs.Line.{windowLength, lineSum}
-use Rattle.spectrum.specs.Folding.{heldBy, pairedCosineSum, pairedSineSum, pairSum, pairDifference, paired, placeSum, cosineOf, sineOf}
-use Rattle.spectrum.proofs.FoldedPlaces.{folded-before, folded-low, folded-high, placeSum-first, placeSum-rest, placeSum-pairs, fold-same, fold-opposite}
+use Rattle.spectrum.specs.Folding.{heldBy, cosineOverPairs, sineOverPairs, pairSum, pairDifference, paired, placeSum, cosineOf, sineOf}
+use Rattle.spectrum.proofs.FoldedPlaces.{folded-before, folded-low, folded-middle, folded-high, placeSum-first, placeSum-last, placeSum-rest, fold-same, fold-opposite}
 use Rattle.spectrum.proofs.LineWaves.{cosine-same, sine-opposite}
 
 -- ---- the whole sums over the paired window
@@ -23,8 +23,8 @@ module _ (window : List ℤ) (k : ℕ) where
   unfolding lineSum placeSum
   by-places wave = sumTo-same windowLength _ _ (λ j below. ap (λ p. heldBy window p *ℤ wave (p * k)) (sym (zero-add j)))
 
-  pub cosine-paired : lineSum tableCosine window k ≡ placeSum 0 1025 (paired (heldBy window)) (cosineOf k)
-  cosine-paired =
+  pub lineSum-paired-cosine : lineSum tableCosine window k ≡ placeSum 0 1025 (paired (heldBy window)) (cosineOf k)
+  lineSum-paired-cosine =
       by-places tableCosine
       ∙ placeSum-first 0 (cosineOf k) 2047 (heldBy window)
       ∙ ap₂ (λ a z. a *ℤ cosineOf k 0 +ℤ z)
@@ -33,8 +33,8 @@ module _ (window : List ℤ) (k : ℕ) where
       (λ i below. cosine-same k (2047 - i) (1 + i) 2048 (omega arith) (omega arith)))
       ∙ sym (placeSum-first 0 (cosineOf k) 1024 (paired (heldBy window)))
 
-  pub sine-paired : lineSum tableSine window k ≡ placeSum 1025 1023 (paired (heldBy window)) (sineOf k)
-  sine-paired =
+  pub lineSum-paired-sine : lineSum tableSine window k ≡ placeSum 1025 1023 (paired (heldBy window)) (sineOf k)
+  lineSum-paired-sine =
       by-places tableSine
       ∙ placeSum-rest 0 (sineOf k) 2047 (heldBy window) (tableSine-start (0 * k) (omega arith))
       ∙ fold-opposite 1 1023 1024 2047 refl refl (heldBy window) (sineOf k)
@@ -43,77 +43,60 @@ module _ (window : List ℤ) (k : ℕ) where
 
 -- ---- card 13's pairs
 
-module _ (window : List ℤ) (k : ℕ) (wave : ℕ → ℤ) where
-  -- sample 0, sample 1024 and the two summands of each pair
-  abbrev pairSummands : ℕ → ℤ
-  pairSummands i =
-      heldBy window (1 + i) *ℤ wave ((1 + i) * k) +ℤ heldBy window (2047 - i) *ℤ wave ((2047 - i) * k)
+-- what the first folding leaves: the sum at place j, at its mirror the difference, with the sign that the sine has there, and the samples 0 and 1024 as they were
+module _ (window : List ℤ) where
+  paired-0 : paired (heldBy window) 0 ≡ heldBy window 0
+  paired-0 = folded-before 1 2047 (heldBy window) 0 (omega arith)
 
-  lineSum-pairs : lineSum wave window k
-      ≡ heldBy window 0 *ℤ wave (0 * k) +ℤ (sumTo 1023 pairSummands +ℤ heldBy window 1024 *ℤ wave (1024 * k))
-  lineSum-pairs =
-      by-places window k wave
-      ∙ placeSum-first 0 (λ p. wave (p * k)) 2047 (heldBy window)
-      ∙ ap (λ z. heldBy window 0 *ℤ wave (0 * k) +ℤ z)
-      (placeSum-pairs 1 1023 1024 2047 refl refl (heldBy window) (λ p. wave (p * k)))
+  paired-1024 : paired (heldBy window) 1024 ≡ heldBy window 1024
+  paired-1024 = folded-middle 1 2047 (heldBy window) 1024 refl
+
+  module _ (j : ℕ) (some : 1 ≤ j) (most : j ≤ 1023) where
+    paired-sum : paired (heldBy window) j ≡ pairSum window j
+    paired-sum = folded-low 1 2047 (heldBy window) j some (omega arith)
+
+    paired-difference : paired (heldBy window) (windowLength - j) ≡ negℤ (pairDifference window j)
+    paired-difference =
+        let mirror : 1 + 2047 - (windowLength - j) ≡ j = omega arith in
+        folded-high 1 2047 (heldBy window) (windowLength - j) (omega arith) (omega arith)
+        ∙ ap (λ p. heldBy window (windowLength - j) -ℤ heldBy window p) mirror
+        ∙ opposite (heldBy window j) (heldBy window (windowLength - j))
+      where
+        opposite : (a b : ℤ) → b -ℤ a ≡ negℤ (a -ℤ b)
+        opposite a b = let x = variable 0 in let y = variable 1 in ring (y ⊖ x) (⊝ (x ⊖ y)) tt (a ∷ b ∷ [])
 
 module _ (window : List ℤ) (k : ℕ) where
-  -- the pairs' sums serve the cosine
-  pub pairs-cosine : pairedCosineSum window k ≡ lineSum tableCosine window k
-  unfolding pairedCosineSum
-  pairs-cosine =
-      let sample-0 = heldBy window 0 *ℤ tableCosine 0 in
-      let sample-1024 = heldBy window 1024 *ℤ tableCosine (1024 * k) in
+  -- so the whole sums are those over the pairs
+  pub cosineOverPairs-whole : cosineOverPairs window k ≡ lineSum tableCosine window k
+  unfolding cosineOverPairs placeSum
+  cosineOverPairs-whole =
+      let x = heldBy window in
+      let sample-0 = x 0 *ℤ tableCosine 0 in
+      let sample-1024 = x 1024 *ℤ tableCosine (1024 * k) in
       let pairs = sumTo 1023 (λ i. pairSum window (1 + i) *ℤ cosineOf k (1 + i)) in
       sym (
-      lineSum-pairs window k tableCosine
-      ∙ ap₂ (λ m z. heldBy window 0 *ℤ tableCosine m +ℤ (z +ℤ sample-1024)) (zero-mul k) sums
+      lineSum-paired-cosine window k
+      ∙ placeSum-first 0 (cosineOf k) 1024 (paired x)
+      ∙ ap₂ _+ℤ_
+      (ap₂ (λ z m. z *ℤ tableCosine m) (paired-0 window) (zero-mul k))
+      (placeSum-last 1 (cosineOf k) 1023 (paired x) ∙ ap₂ _+ℤ_ sums (ap (λ z. z *ℤ tableCosine (1024 * k)) (paired-1024 window)))
       ∙ sym (+ℤ-assoc sample-0 pairs sample-1024)
       ∙ +ℤ-right-comm sample-0 pairs sample-1024)
     where
-      sums : sumTo 1023 (pairSummands window k tableCosine) ≡ sumTo 1023 (λ i. pairSum window (1 + i) *ℤ cosineOf k (1 + i))
-      sums = sumTo-same 1023 _ _ (λ i below.
-          let mirrored : windowLength - (1 + i) ≡ 2047 - i = omega arith in
-          let same = cosine-same k (2047 - i) (1 + i) 2048 (omega arith) (omega arith) in
-          rw (mirrored, same) (sym (+ℤ-*ℤ (heldBy window (1 + i)) (heldBy window (2047 - i)) (cosineOf k (1 + i)))))
+      sums : placeSum 1 1023 (paired (heldBy window)) (cosineOf k) ≡ sumTo 1023 (λ i. pairSum window (1 + i) *ℤ cosineOf k (1 + i))
+      sums = sumTo-same 1023 _ _ (λ i below. ap (λ z. z *ℤ cosineOf k (1 + i)) (paired-sum window (1 + i) (omega arith) (omega arith)))
 
-  -- and their differences the sine
-  pub pairs-sine : pairedSineSum window k ≡ lineSum tableSine window k
-  unfolding pairedSineSum
-  pairs-sine = sym (
-      lineSum-pairs window k tableSine
-      ∙ ap₂ (λ a z. heldBy window 0 *ℤ a +ℤ z)
-      (tableSine-start (0 * k) (omega arith))
-      (ap₂ (λ z b. z +ℤ heldBy window 1024 *ℤ b) differences (tableSine-start (1024 * k) (omega arith)))
-      ∙ alone (heldBy window 0) (heldBy window 1024) (sumTo 1023 (λ i. pairDifference window (1 + i) *ℤ sineOf k (1 + i))))
+  pub sineOverPairs-whole : sineOverPairs window k ≡ lineSum tableSine window k
+  unfolding sineOverPairs placeSum
+  sineOverPairs-whole = sym (
+      lineSum-paired-sine window k
+      ∙ sym (sumTo-reversed 1023 (λ i. paired (heldBy window) (1025 + i) *ℤ sineOf k (1025 + i)))
+      ∙ sumTo-same 1023 _ _ (λ i below.
+      let j = 1 + i in
+      let place : 1025 + (1023 - suc i) ≡ windowLength - j = omega arith in
+      let difference = paired-difference window j (omega arith) (omega arith) in
+      let opposite = sine-opposite k (windowLength - j) j 2048 (omega arith) (omega arith) in
+      rw (place, difference, opposite) (both-signs (pairDifference window j) (sineOf k j))))
     where
-      difference : (a b w : ℤ) → a *ℤ w +ℤ b *ℤ negℤ w ≡ (a -ℤ b) *ℤ w
-      difference a b w =
-          let x = variable 0 in let y = variable 1 in let z = variable 2 in
-          ring (x ⊗ z ⊕ y ⊗ ⊝ z) ((x ⊖ y) ⊗ z) tt (a ∷ b ∷ w ∷ [])
-
-      differences : sumTo 1023 (pairSummands window k tableSine) ≡ sumTo 1023 (λ i. pairDifference window (1 + i) *ℤ sineOf k (1 + i))
-      differences = sumTo-same 1023 _ _ (λ i below.
-          let mirrored : windowLength - (1 + i) ≡ 2047 - i = omega arith in
-          let opposite = sine-opposite k (2047 - i) (1 + i) 2048 (omega arith) (omega arith) in
-          rw (mirrored, opposite) (difference (heldBy window (1 + i)) (heldBy window (2047 - i)) (sineOf k (1 + i))))
-
-      alone : (a b s : ℤ) → a *ℤ pos 0 +ℤ (s +ℤ b *ℤ pos 0) ≡ s
-      alone a b s =
-          let x = variable 0 in let y = variable 1 in let z = variable 2 in
-          ring (x ⊗ constant (pos 0) ⊕ (z ⊕ y ⊗ constant (pos 0))) z tt (a ∷ b ∷ s ∷ [])
-
--- the first folding leaves the pairs: the sum at place j, and at its mirror the difference, which the sine there takes with the other sign
-module _ (window : List ℤ) (j : ℕ) (some : 1 ≤ j) (most : j ≤ 1023) where
-  pub paired-sum : paired (heldBy window) j ≡ pairSum window j
-  paired-sum = folded-low 1 2047 (heldBy window) j some (omega arith)
-
-  pub paired-difference : paired (heldBy window) (windowLength - j) ≡ negℤ (pairDifference window j)
-  paired-difference =
-      let mirror : 1 + 2047 - (windowLength - j) ≡ j = omega arith in
-      folded-high 1 2047 (heldBy window) (windowLength - j) (omega arith) (omega arith)
-      ∙ ap (λ p. heldBy window (windowLength - j) -ℤ heldBy window p) mirror
-      ∙ opposite (heldBy window j) (heldBy window (windowLength - j))
-    where
-      opposite : (a b : ℤ) → b -ℤ a ≡ negℤ (a -ℤ b)
-      opposite a b = let x = variable 0 in let y = variable 1 in ring (y ⊖ x) (⊝ (x ⊖ y)) tt (a ∷ b ∷ [])
+      both-signs : (a b : ℤ) → negℤ a *ℤ negℤ b ≡ a *ℤ b
+      both-signs a b = let x = variable 0 in let y = variable 1 in ring (⊝ x ⊗ ⊝ y) (x ⊗ y) tt (a ∷ b ∷ [])

@@ -21,9 +21,9 @@ heldBy list p = getD list p (pos 0)
 abbrev pub lastPlace : ℕ
 lastPlace = windowLength - 1
 
--- no number above the bound
-abbrev pub Within : ℕ → (ℕ → ℤ) → Type 0
-Within bound f = (p : ℕ) → natAbs (f p) ≤ bound
+-- no number is larger in size than the bound
+abbrev pub Bounded : ℕ → (ℕ → ℤ) → Type 0
+Bounded bound f = (p : ℕ) → natAbs (f p) ≤ bound
 
 -- ---- card 13's pairs: sample j with sample 2048 − j, for j = 1..1023
 
@@ -33,15 +33,15 @@ pairSum window j = heldBy window j +ℤ heldBy window (windowLength - j)
 abbrev pub pairDifference : List ℤ → ℕ → ℤ
 pairDifference window j = heldBy window j -ℤ heldBy window (windowLength - j)
 
--- the cosine's whole sum over the pairs' sums, with the samples 0 and 1024 alone
-unfoldable pub pairedCosineSum : List ℤ → ℕ → ℤ
-pairedCosineSum window k =
+-- the whole sum of the cosine over the pairs' sums, with the samples 0 and 1024 alone
+unfoldable pub cosineOverPairs : List ℤ → ℕ → ℤ
+cosineOverPairs window k =
     heldBy window 0 *ℤ tableCosine 0 +ℤ heldBy window 1024 *ℤ tableCosine (1024 * k)
     +ℤ sumTo 1023 (λ i. pairSum window (1 + i) *ℤ tableCosine ((1 + i) * k))
 
--- the sine's over the pairs' differences; at the samples 0 and 1024 the sine is 0
-unfoldable pub pairedSineSum : List ℤ → ℕ → ℤ
-pairedSineSum window k = sumTo 1023 (λ i. pairDifference window (1 + i) *ℤ tableSine ((1 + i) * k))
+-- the whole sum of the sine over the pairs' differences; at the samples 0 and 1024 the sine is 0
+unfoldable pub sineOverPairs : List ℤ → ℕ → ℤ
+sineOverPairs window k = sumTo 1023 (λ i. pairDifference window (1 + i) *ℤ tableSine ((1 + i) * k))
 
 -- ---- one folding, between any two places
 
@@ -59,7 +59,7 @@ folded first last f p =
 abbrev pub paired : (ℕ → ℤ) → ℕ → ℤ
 paired = folded 1 lastPlace
 
--- the cosine's places 0..2·half and the sine's last 2·half − 1 places, each folded
+-- the places 0..2·half, the cosine's, and the last 2·half − 1, the sine's, each folded
 unfoldable pub halved : ℕ → (ℕ → ℤ) → ℕ → ℤ
 halved half f = folded (windowLength + 1 - 2 * half) lastPlace (folded 0 (2 * half) f)
 
@@ -68,7 +68,7 @@ unfoldable pub halvedFrom : ℕ → (ℕ → ℤ) → ℕ → ℤ
 halvedFrom zero f = f
 halvedFrom (suc d) f = halvedFrom d (halved (2 ^ d) f)
 
--- a window folded as far as the table's symmetries go: the pairs, and then halved from 512 on
+-- a window folded as far as the table's symmetries go: the pairs, and then halved at 512, 256, .. 1
 unfoldable pub foldedWindow : List ℤ → ℕ → ℤ
 foldedWindow window = halvedFrom 10 (paired (heldBy window))
 
@@ -87,7 +87,7 @@ cosineOf k p = tableCosine (p * k)
 abbrev pub sineOf : ℕ → ℕ → ℤ
 sineOf k p = tableSine (p * k)
 
--- the sum over a list, which is a part of a folded one that begins at the place first, of what it holds times the cosine of line k
+-- the sum of what a part of a folded list holds times the cosines of line k from the place first on
 unfoldable pub partSum : List ℤ → ℕ → ℕ → ℤ
 partSum part first k = sumTo (length part) (λ i. heldBy part i *ℤ cosineOf k (first + i))
 

@@ -20,17 +20,17 @@ pub record Prepared (folded wave : List ℤ) : Type 0 where
   pub is-folded : heldBy folded ≡ foldedWindow window
   pub one-turn : wave ≡ waveList
 
--- a part of a folded list whose numbers, times how many they are, are so small that no sum over it passes 2^58
-abbrev pub Light : List ℤ → Type 0
-Light part = (i : ℕ) → i < length part → natAbs (heldBy part i) * length part ≤ largestFolded
+-- a part of a folded list whose numbers, times how many they are, are so small that every sum over it is below 2^58
+abbrev pub SumFits : List ℤ → Type 0
+SumFits part = (i : ℕ) → i < length part → natAbs (heldBy part i) * length part ≤ largestFolded
 
 -- two such parts of one length, not empty, and one turn of the table's sine; the places of the first part are at most 1,024
 pub record Parts (cosinePart sinePart wave : List ℤ) (first : ℕ) : Type 0 where
   pub some : 1 ≤ length cosinePart
   pub same-length : length sinePart ≡ length cosinePart
   pub places : first + length cosinePart ≤ 1025
-  pub light-cosine : Light cosinePart
-  pub light-sine : Light sinePart
+  pub cosine-fits : SumFits cosinePart
+  pub sine-fits : SumFits sinePart
   pub one-turn : wave ≡ waveList
 
 -- a line, and some lines, of the window that was folded

@@ -10,15 +10,15 @@ ghost use lib.ListN.{length};
 ghost use Rattle.algebra.specs.Lists.{anyOf};
 ghost use Rattle.spectrum.specs.Line.{windowLength};
 ghost use Rattle.spectrum.specs.Spectrum.{largestSample, outOfRange};
-ghost use Rattle.spectrum.specs.Folding.{heldBy, Within, folded, halvedFrom, foldedWindow};
+ghost use Rattle.spectrum.specs.Folding.{heldBy, Bounded, folded, halvedFrom, foldedWindow};
 
 // The last place of a window.
 const LAST: usize = WINDOW_LENGTH - 1;
 // The places of the cosine's sums after the pairs are 0..1024.
-const PAIRED_SPAN: usize = WINDOW_LENGTH / 2;
+const PAIRED_REACH: usize = WINDOW_LENGTH / 2;
 
 // The sum of two numbers of a list that is folded.
-fn added(a: i32, b: i32) -> i32
+fn sum(a: i32, b: i32) -> i32
     requires { ⌜ natAbs a < 2 ^ 30 ⌝ }
     requires { ⌜ natAbs b < 2 ^ 30 ⌝ }
     ensures { λ r. ⌜ r ≡ a +ℤ b ⌝ }
@@ -27,7 +27,7 @@ fn added(a: i32, b: i32) -> i32
 }
 
 // Their difference.
-fn less(a: i32, b: i32) -> i32
+fn difference(a: i32, b: i32) -> i32
     requires { ⌜ natAbs a < 2 ^ 30 ⌝ }
     requires { ⌜ natAbs b < 2 ^ 30 ⌝ }
     ensures { λ r. ⌜ r ≡ a -ℤ b ⌝ }
@@ -38,7 +38,7 @@ fn less(a: i32, b: i32) -> i32
 // Folds the list between two places: below the middle a place then holds the sum of its pair, above it the difference, and the middle what it held.
 fn fold(list: &mut [i32], first: usize, last: usize)
     requires { ⌜ last < length (now list) ⌝ }
-    requires { ⌜ Within (2 ^ 29) (heldBy (now list)) ⌝ }
+    requires { ⌜ Bounded (2 ^ 29) (heldBy (now list)) ⌝ }
     ensures { λ _. ⌜ heldBy (now (list .exit)) ≡ folded first last (heldBy (now (list .entry))) ⌝ }
 {
     let mut low = first;
@@ -46,8 +46,8 @@ fn fold(list: &mut [i32], first: usize, last: usize)
     while low < high {
         let a = list[low];
         let b = list[high];
-        list[low] = added(a, b);
-        list[high] = less(b, a);
+        list[low] = sum(a, b);
+        list[high] = difference(b, a);
         low += 1;
         high -= 1;
     }
@@ -68,14 +68,14 @@ fn copy_window(window: &[i32], list: &mut [i32])
 // Halves the paired list again and again: the cosine's places from the front, the sine's at the end.
 fn halve(list: &mut [i32])
     requires { ⌜ length (now list) ≡ windowLength ⌝ }
-    requires { ⌜ Within (2 * largestSample) (heldBy (now list)) ⌝ }
+    requires { ⌜ Bounded (2 * largestSample) (heldBy (now list)) ⌝ }
     ensures { λ _. ⌜ heldBy (now (list .exit)) ≡ halvedFrom 10 (heldBy (now (list .entry))) ⌝ }
 {
-    let mut span = PAIRED_SPAN;
-    while 1 < span {
-        fold(list, 0, span);
-        fold(list, WINDOW_LENGTH + 1 - span, LAST);
-        span /= 2;
+    let mut reach = PAIRED_REACH;
+    while 1 < reach {
+        fold(list, 0, reach);
+        fold(list, WINDOW_LENGTH + 1 - reach, LAST);
+        reach /= 2;
     }
 }
 

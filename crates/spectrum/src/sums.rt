@@ -14,8 +14,8 @@ ghost use Rattle.spectrum.specs.Line.{lineLimit, sumScale};
 ghost use Rattle.spectrum.specs.Folding.{heldBy, placeSum, partSum, cosineOf, EndsAt, sineAhead};
 ghost use Rattle.spectrum.specs.Prepared.{Prepared, Parts, LineOfFolded};
 
-// What is added to an index for the cosine: a quarter turn.
-const COSINE_PHASE: usize = TURN / 4;
+// A quarter turn, by which the cosine is ahead of the sine.
+const QUARTER_TURN: usize = TURN / 4;
 // The first halving is at a quarter of the window.
 const FIRST_HALF: usize = WINDOW_LENGTH / 4;
 // The sums are divided by 2 to this power.
@@ -67,7 +67,7 @@ fn part_sums(
     let mut sine: i64 = 0;
     let mut i = 0;
     while i < cosine_part.len() {
-        let factor = wave[sine::turn_index((first + i) * k + COSINE_PHASE)];
+        let factor = wave[sine::turn_index((first + i) * k + QUARTER_TURN)];
         cosine = accumulate(cosine, cosine_part[i], factor);
         sine = accumulate(sine, sine_part[i], factor);
         i += 1;
@@ -75,7 +75,7 @@ fn part_sums(
     Sums { cosine, sine }
 }
 
-// The sums over the line's places. One cosine serves both: at the sine's place it is the sine, but for its sign.
+// The sums over the line's places. One cosine serves both: at a place of the cosine it is, but for a sign, the sine at the place of the sine that lies ahead.
 fn folded_sums(folded: &[i32], wave: &[i32; TURN], k: usize, half: usize) -> Sums
     requires { ⌜ Prepared (now folded) (now wave) ⌝ }
     requires { ⌜ k < lineLimit ⌝ }
@@ -99,7 +99,7 @@ fn signed_sine(sum: i64, angle: usize) -> i64
     requires { ⌜ natAbs sum < 2 ^ 58 ⌝ }
     ensures { λ r. ⌜ r ≡ cond (eqb (angle % turn) quarterTurn) sum (negℤ sum) ⌝ }
 {
-    if sine::turn_index(angle) == COSINE_PHASE {
+    if sine::turn_index(angle) == QUARTER_TURN {
         sum
     } else {
         -sum
@@ -111,7 +111,7 @@ fn sum_of_line_0(folded: &[i32], wave: &[i32; TURN]) -> i64
     requires { ⌜ Prepared (now folded) (now wave) ⌝ }
     ensures { λ r. ⌜ r ≡ placeSum 0 2 (heldBy (now (folded .entry))) (cosineOf 0) ⌝ }
 {
-    let factor = wave[COSINE_PHASE];
+    let factor = wave[QUARTER_TURN];
     accumulate(accumulate(0, folded[0], factor), folded[1], factor)
 }
 

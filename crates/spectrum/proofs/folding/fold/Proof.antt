@@ -44,16 +44,16 @@ module _ (c : tie.After-b Inv-loop μ-loop) where
   high-small : natAbs (toZ w32 (ofZ w32 (heldBy (at .loop .list) (at .loop .high)))) < 2 ^ 30
   high-small = rw high-number (omega (arith, at .before .pre .1 (at .loop .high)))
 
-added-requires : tie.Need-added-requires Inv-loop μ-loop
-added-requires c κs = (low-small c, high-small c)
+sum-requires : tie.Need-sum-requires Inv-loop μ-loop
+sum-requires c κs = (low-small c, high-small c)
 
-less-requires : tie.Need-less-requires Inv-loop μ-loop
-less-requires c κs = (high-small (c .before), low-small (c .before))
+difference-requires : tie.Need-difference-requires Inv-loop μ-loop
+difference-requires c κs = (high-small (c .before), low-small (c .before))
 
 slice-set-from-list-2 : tie.Need-slice-set-from-list-2 Inv-loop μ-loop
 slice-set-from-list-2 c =
     let at = c .before .before .before .before .before in
-    rw (length-set (at .loop .list) (at .loop .low) (toZ w32 (ofZ w32 (c .before .added .result)))) (omega arith)
+    rw (length-set (at .loop .list) (at .loop .low) (toZ w32 (ofZ w32 (c .before .sum .result)))) (omega arith)
 
 loop-again : tie.Need-loop-again Inv-loop μ-loop
 loop-again c =
@@ -63,8 +63,8 @@ loop-again c =
       search needs,
       omega arith,
       partly-more (a .first) (a .last) (heldBy (a .list .now)) (at .loop .low) (at .loop .high) (at .loop .list) _ _ (omega arith) (omega arith) (at .loop .inv .2)
-          (toZ-ofZ w32 _ (record { sfits = c .before .added .ok }) ∙ c .before .added .ensures ∙ ap₂ _+ℤ_ (low-number pair) (high-number pair))
-          (toZ-ofZ w32 _ (record { sfits = c .less .ok }) ∙ c .less .ensures ∙ ap₂ _-ℤ_ (high-number pair) (low-number pair)),
+          (toZ-ofZ w32 _ (record { sfits = c .before .sum .ok }) ∙ c .before .sum .ensures ∙ ap₂ _+ℤ_ (low-number pair) (high-number pair))
+          (toZ-ofZ w32 _ (record { sfits = c .difference .ok }) ∙ c .difference .ensures ∙ ap₂ _-ℤ_ (high-number pair) (low-number pair)),
     )
 
 returns : tie.Need-returns Inv-loop μ-loop
@@ -83,10 +83,10 @@ fold-spec =
     (λ c. search needs)
     (λ c. search needs)
     (λ c. search needs)
-    added-requires
+    sum-requires
     (λ c. search needs)
     (λ c. search needs)
-    less-requires
+    difference-requires
     (λ c. search needs)
     slice-set-from-list-2
     (λ c. search needs)

@@ -6,7 +6,7 @@ use borrow.Author.Needs.{needs}
 use Rattle.spectrum.specs.Spectrum.{largestSample}
 use Rattle.spectrum.specs.Folding.{heldBy, paired, halvedFrom, foldedWindow}
 use Rattle.spectrum.proofs.Bounds.{sample-le}
-use Rattle.spectrum.proofs.FoldedBounds.{within-same, paired-within}
+use Rattle.spectrum.proofs.FoldedBounds.{bounded-same, paired-bounded}
 use Rattle.spectrum.proofs.folding.fold_window.Statement.{statement}
 use Rattle.spectrum.proofs.folding.fold_window.Tie as tie
 
@@ -16,7 +16,7 @@ fold-requires c κs =
     let start = copied .before .before in
     let window = start .args .window .now in (
       omega (arith, start .pre .1 .0, copied .copy-window .kept .1 .0),
-      within-same (2 ^ 29) (heldBy (copied .copy-window .last .1 .0)) (heldBy window) (ap heldBy (copied .copy-window .ensures))
+      bounded-same (2 ^ 29) (heldBy (copied .copy-window .last .1 .0)) (heldBy window) (ap heldBy (copied .copy-window .ensures))
           (λ p. omega (arith, sample-le window (start .pre .1 .1) p)),
     )
 
@@ -32,7 +32,7 @@ halve-requires c κs =
     let start = copied .before .before in
     let window = start .args .window .now in (
       folded .fold .kept .0 ∙ copied .copy-window .kept .1 .0 ∙ start .pre .1 .0,
-      within-same (2 * largestSample) (heldBy (folded .fold .last .0)) (paired (heldBy window)) (the-pairs folded) (paired-within window (start .pre .1 .1)),
+      bounded-same (2 * largestSample) (heldBy (folded .fold .last .0)) (paired (heldBy window)) (the-pairs folded) (paired-bounded window (start .pre .1 .1)),
     )
 
 returns : tie.Need-returns

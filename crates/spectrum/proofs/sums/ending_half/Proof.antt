@@ -1,7 +1,7 @@
 -- `spectrum::sums::ending_half` meets its contract. The loop's invariant: a power of two, twice which times k is a whole number of half turns. Line 0 would never end; of every other line the power is 1 at the latest. The measure is the half length.
 use mathlib.Core.Path.{_≡_, refl, sym, ap, _∙_}
 use Prim.Native.Nat.{ℕ, zero, suc, _+_, _-_, _*_, _/_, _%_, _^_, _≤_, _<_}
-use native.Mathlib.Nat.{le-refl, le-of-lt, mul-le-mul, mod-lt, mod-eq-of-lt, mod-eq-sub-mod, add-mod}
+use native.Mathlib.Nat.{le-refl, le-of-lt, mul-le-mul, mod-lt, mod-eq-of-lt, mod-eq-sub-mod, add-mod, pow-succ'}
 use native.Mathlib.Decide.{decLt}
 use native.Mathlib.Omega.{arith}
 use borrow.Author.Needs.{needs}
@@ -9,7 +9,6 @@ use lib.Dec.{lit<}
 use lib.Pow.{pow-pos}
 use Rattle.sine.specs.Turn.{halfTurn, quarterTurn}
 use Rattle.spectrum.specs.Folding.{EndsAt}
-use Rattle.spectrum.proofs.HalvedSums.{double}
 use Rattle.spectrum.proofs.sums.ending_half.Statement.{statement}
 use Rattle.spectrum.proofs.sums.ending_half.Tie as tie
 
@@ -29,7 +28,7 @@ module _ (k half : ℕ) (reached : Reached k half) where
           let product : half * k ≡ k = ap (λ n. n * k) is-power ∙ omega arith in
           absurd (omega (arith, product, even, some, most))
       go (suc c) few is-power =
-          let twice : half ≡ 2 * 2 ^ c = is-power ∙ double c in
+          let twice : half ≡ 2 * 2 ^ c = is-power ∙ pow-succ' 2 c in
           let product : half * k ≡ 2 * 2 ^ c * k = ap (λ n. n * k) twice in
           let smaller : half / 2 ≡ 2 ^ c = omega (arith, twice) in
           let angle : 2 ^ c * k + 2 ^ c * k ≡ half * k = omega (arith, product) in

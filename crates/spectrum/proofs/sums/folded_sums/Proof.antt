@@ -10,7 +10,7 @@ use lib.ListN.{length, take, drop}
 use Rattle.algebra.proofs.SumTo.{sumTo-same}
 use Rattle.spectrum.specs.Folding.{heldBy, placeSum, partSum, cosineOf, EndsAt, sineAhead}
 use Rattle.spectrum.specs.Prepared.{Prepared, Parts}
-use Rattle.spectrum.proofs.FoldedLines.{ahead, half-le, half-pos, part-length, part-sum, left-light}
+use Rattle.spectrum.proofs.FoldedLines.{ahead, half-le, half-pos, part-length, part-sum, left-fits}
 use Rattle.spectrum.proofs.sums.folded_sums.Statement.{statement}
 use Rattle.spectrum.proofs.sums.folded_sums.Tie as tie
 
@@ -38,8 +38,8 @@ module _ (folded wave : List ℤ) (prepared : Prepared folded wave) (k half : �
         some = rw long (small .1);
         same-length = part-length folded sineFirst half sine-room ∙ sym long;
         places = rw long (omega (arith, small .0));
-        light-cosine = left-light folded wave prepared k half ends (half + 1) (omega arith) (omega (arith, small .0));
-        light-sine = left-light folded wave prepared k half ends sineFirst (omega (arith, small .0)) (omega (arith, small .0));
+        cosine-fits = left-fits folded wave prepared k half ends (half + 1) (omega arith) (omega (arith, small .0));
+        sine-fits = left-fits folded wave prepared k half ends sineFirst (omega (arith, small .0)) (omega (arith, small .0));
         one-turn = prepared .one-turn;
       }
 

@@ -16,8 +16,8 @@ use Rattle.sine.specs.Turn.{turn, quarterTurn}
 use Rattle.sine.specs.Wave.{tableCosine, waveList}
 use Rattle.sine.proofs.Wave.{tableCosine-le, waveList-at-mod}
 use Rattle.spectrum.specs.Folding.{heldBy, partSum, cosineOf}
-use Rattle.spectrum.specs.Prepared.{Light}
-use Rattle.spectrum.proofs.FoldedBounds.{light-sum-le}
+use Rattle.spectrum.specs.Prepared.{SumFits}
+use Rattle.spectrum.proofs.FoldedBounds.{sumFits-le}
 use Rattle.spectrum.proofs.sums.part_sums.Statement.{statement}
 use Rattle.spectrum.proofs.sums.part_sums.Tie as tie
 
@@ -35,10 +35,10 @@ abbrev μ-loop : tie.MeasureT-loop
 μ-loop cosine-part sine-part wave k first cosine₀ sine₀ i₀ cosine sine i = length cosine-part - i
 
 -- the sums stay small on the way
-sum-small : (part : List ℤ) (first k n : ℕ) → 1 ≤ length part → n ≤ length part → Light part → natAbs (sumOfFirst n part first k) < 2 ^ 62
-sum-small part first k n some few light =
+sum-small : (part : List ℤ) (first k n : ℕ) → 1 ≤ length part → n ≤ length part → SumFits part → natAbs (sumOfFirst n part first k) < 2 ^ 62
+sum-small part first k n some few fits-one =
     lt-of-lt-of-le
-    (light-sum-le (length part) n (heldBy part) (λ i. cosineOf k (first + i)) some few (λ i. tableCosine-le ((first + i) * k)) (λ i below. light i (lt-of-lt-of-le below few)))
+    (sumFits-le (length part) n (heldBy part) (λ i. cosineOf k (first + i)) some few (λ i. tableCosine-le ((first + i) * k)) (λ i below. fits-one i (lt-of-lt-of-le below few)))
     (omega arith)
 
 -- one more number, which like the wave is read back from its bits
@@ -79,7 +79,7 @@ accumulate-requires c κs =
     let at = c .before .before .before .before in
     let a = at .before .args in
     let p = at .before .pre .0 in
-    rw (at .loop .inv .1) (sum-small (a .cosine-part .now) (a .first) (a .k) (at .loop .i) (p .some) (at .loop .inv .0) (p .light-cosine))
+    rw (at .loop .inv .1) (sum-small (a .cosine-part .now) (a .first) (a .k) (at .loop .i) (p .some) (at .loop .inv .0) (p .cosine-fits))
 
 accumulate-requires-2 : tie.Need-accumulate-requires-2 Inv-loop μ-loop
 accumulate-requires-2 c κs =
@@ -87,7 +87,7 @@ accumulate-requires-2 c κs =
     let a = at .before .args in
     let p = at .before .pre .0 in
     rw (at .loop .inv .2)
-    (sum-small (a .sine-part .now) (a .first) (a .k) (at .loop .i) (rw (p .same-length) (p .some)) (rw (p .same-length) (at .loop .inv .0)) (p .light-sine))
+    (sum-small (a .sine-part .now) (a .first) (a .k) (at .loop .i) (rw (p .same-length) (p .some)) (rw (p .same-length) (at .loop .inv .0)) (p .sine-fits))
 
 loop-again : tie.Need-loop-again Inv-loop μ-loop
 loop-again c =

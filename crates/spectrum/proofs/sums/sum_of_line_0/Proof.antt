@@ -16,7 +16,7 @@ use Rattle.sine.specs.Wave.{tableCosine}
 use Rattle.sine.proofs.Wave.{tableCosine-le, waveList-at}
 use Rattle.spectrum.specs.Folding.{heldBy, foldedWindow, placeSum}
 use Rattle.spectrum.specs.Prepared.{Prepared}
-use Rattle.spectrum.proofs.FoldedBounds.{foldedWindow-within}
+use Rattle.spectrum.proofs.FoldedBounds.{foldedWindow-bounded}
 use Rattle.spectrum.proofs.sums.sum_of_line_0.Statement.{statement}
 use Rattle.spectrum.proofs.sums.sum_of_line_0.Tie as tie
 
@@ -40,7 +40,7 @@ first-sum c =
 product-small : (folded wave : List ℤ) → Prepared folded wave → (p : ℕ) → natAbs (pos 0 +ℤ heldBy folded p *ℤ tableCosine 0) < 2 ^ 62
 product-small folded wave prepared p =
     let held : heldBy folded p ≡ foldedWindow (prepared .window) p = ap (λ f. f p) (prepared .is-folded) in
-    let small = foldedWindow-within (prepared .window) (prepared .in-range) p in
+    let small = foldedWindow-bounded (prepared .window) (prepared .in-range) p in
     rw (+ℤ-idl (heldBy folded p *ℤ tableCosine 0), natAbs-*ℤ, held)
     (lt-of-le-of-lt (mul-le-mul small (tableCosine-le 0)) (omega arith))
 

@@ -1,4 +1,4 @@
--- `spectrum::folding::less` meets its contract: two numbers below 2^30 have their difference in 32 bits.
+-- `spectrum::folding::difference` meets its contract: two numbers below 2^30 have their difference in 32 bits.
 use mathlib.Core.Path.{ap₂, _∙_}
 use native.Mathlib.Omega.{arith}
 use lib.IntN.{negℤ, _-ℤ_}
@@ -6,8 +6,8 @@ use mir.Syntax.{w32}
 use mir.ValLaws.{toZ-ofZ}
 use Rattle.algebra.proofs.Integer.{natAbs-+ℤ-le, natAbs-negℤ}
 use Rattle.algebra.proofs.Signed.{sfits-natAbs}
-use Rattle.spectrum.proofs.folding.less.Statement.{statement}
-use Rattle.spectrum.proofs.folding.less.Tie as tie
+use Rattle.spectrum.proofs.folding.difference.Statement.{statement}
+use Rattle.spectrum.proofs.folding.difference.Tie as tie
 
 sub-result : tie.Need-sub-result
 sub-result c =
@@ -20,5 +20,5 @@ returns : tie.Need-returns
 returns c =
     toZ-ofZ w32 _ (sub-result c) ∙ ap₂ _-ℤ_ (toZ-ofZ w32 (c .args .a) (c .fits .a)) (toZ-ofZ w32 (c .args .b) (c .fits .b))
 
-pub less-spec : {M : Type 1} → statement M
-less-spec = tie.close (tie.spec sub-result returns)
+pub difference-spec : {M : Type 1} → statement M
+difference-spec = tie.close (tie.spec sub-result returns)
