@@ -45,17 +45,17 @@ module _ (window : List ℤ) (k : ℕ) where
 
 -- what the first folding leaves: the sum at place j, at its mirror the difference, with the sign that the sine has there, and the samples 0 and 1024 as they were
 module _ (window : List ℤ) where
-  paired-0 : paired (heldBy window) 0 ≡ heldBy window 0
+  pub paired-0 : paired (heldBy window) 0 ≡ heldBy window 0
   paired-0 = folded-before 1 2047 (heldBy window) 0 (omega arith)
 
-  paired-1024 : paired (heldBy window) 1024 ≡ heldBy window 1024
+  pub paired-1024 : paired (heldBy window) 1024 ≡ heldBy window 1024
   paired-1024 = folded-middle 1 2047 (heldBy window) 1024 refl
 
   module _ (j : ℕ) (some : 1 ≤ j) (most : j ≤ 1023) where
-    paired-sum : paired (heldBy window) j ≡ pairSum window j
+    pub paired-sum : paired (heldBy window) j ≡ pairSum window j
     paired-sum = folded-low 1 2047 (heldBy window) j some (omega arith)
 
-    paired-difference : paired (heldBy window) (windowLength - j) ≡ negℤ (pairDifference window j)
+    pub paired-difference : paired (heldBy window) (windowLength - j) ≡ negℤ (pairDifference window j)
     paired-difference =
         let mirror : 1 + 2047 - (windowLength - j) ≡ j = omega arith in
         folded-high 1 2047 (heldBy window) (windowLength - j) (omega arith) (omega arith)
