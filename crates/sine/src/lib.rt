@@ -13,9 +13,9 @@ ghost use Rattle.sine.specs.Wave.{fullScale, tableEntry, tableSine, quar
 // Indices in a turn, in half of it and in a quarter.
 pub const TURN: usize = 2048;
 
-const HALF_TURN: usize = 1024;
+pub const HALF_TURN: usize = 1024;
 
-const QUARTER_TURN: usize = 512;
+pub const QUARTER_TURN: usize = 512;
 
 // The low eleven bits, which are an index modulo a turn.
 const TURN_MASK: usize = TURN - 1;

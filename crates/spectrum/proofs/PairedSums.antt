@@ -16,34 +16,9 @@ use Rattle.spectrum.specs.Folding.{heldBy, cosineOverPairs, sineOverPair
 use Rattle.spectrum.proofs.FoldedPlaces.{folded-before, folded-low, folded-middle, folded-high, placeSum-first, placeSum-last, placeSum-rest, fold-same, fold-opposite}
 use Rattle.spectrum.proofs.LineWaves.{cosine-same, sine-opposite}
 
--- ---- the whole sums over the paired window
+-- ---- what the first folding leaves
 
-module _ (window : List ℤ) (k : ℕ) where
-  by-places : (wave : ℕ → ℤ) → lineSum wave window k ≡ placeSum 0 (suc 2047) (heldBy window) (λ p. wave (p * k))
-  unfolding lineSum placeSum
-  by-places wave = sumTo-same windowLength _ _ (λ j below. ap (λ p. heldBy window p *ℤ wave (p * k)) (sym (zero-add j)))
-
-  pub lineSum-paired-cosine : lineSum tableCosine window k ≡ placeSum 0 1025 (paired (heldBy window)) (cosineOf k)
-  lineSum-paired-cosine =
-      by-places tableCosine
-      ∙ placeSum-first 0 (cosineOf k) 2047 (heldBy window)
-      ∙ ap₂ (λ a z. a *ℤ cosineOf k 0 +ℤ z)
-      (sym (folded-before 1 2047 (heldBy window) 0 (omega arith)))
-      (fold-same 1 1023 1024 2047 refl refl (heldBy window) (cosineOf k)
-      (λ i below. cosine-same k (2047 - i) (1 + i) 2048 (omega arith) (omega arith)))
-      ∙ sym (placeSum-first 0 (cosineOf k) 1024 (paired (heldBy window)))
-
-  pub lineSum-paired-sine : lineSum tableSine window k ≡ placeSum 1025 1023 (paired (heldBy window)) (sineOf k)
-  lineSum-paired-sine =
-      by-places tableSine
-      ∙ placeSum-rest 0 (sineOf k) 2047 (heldBy window) (tableSine-start (0 * k) (omega arith))
-      ∙ fold-opposite 1 1023 1024 2047 refl refl (heldBy window) (sineOf k)
-      (λ i below. sine-opposite k (2047 - i) (1 + i) 2048 (omega arith) (omega arith))
-      ∙ placeSum-rest 1024 (sineOf k) 1023 (paired (heldBy window)) (tableSine-start (1024 * k) (omega arith))
-
--- ---- card 13's pairs
-
--- what the first folding leaves: the sum at place j, at its mirror the difference, with the sign that the sine has there, and the samples 0 and 1024 as they were
+-- the sum at place j, at its mirror the difference, with the sign that the sine has there, and the samples 0 and 1024 as they were
 module _ (window : List ℤ) where
   pub paired-0 : paired (heldBy window) 0 ≡ heldBy window 0
   paired-0 = folded-before 1 2047 (heldBy window) 0 (omega arith)
@@ -64,6 +39,33 @@ module _ (window : List ℤ) where
       where
         opposite : (a b : ℤ) → b -ℤ a ≡ negℤ (a -ℤ b)
         opposite a b = let x = variable 0 in let y = variable 1 in ring (y ⊖ x) (⊝ (x ⊖ y)) tt (a ∷ b ∷ [])
+
+-- ---- the whole sums over the paired window
+
+module _ (window : List ℤ) (k : ℕ) where
+  by-places : (wave : ℕ → ℤ) → lineSum wave window k ≡ placeSum 0 (suc 2047) (heldBy window) (λ p. wave (p * k))
+  unfolding lineSum placeSum
+  by-places wave = sumTo-same windowLength _ _ (λ j below. ap (λ p. heldBy window p *ℤ wave (p * k)) (sym (zero-add j)))
+
+  pub lineSum-paired-cosine : lineSum tableCosine window k ≡ placeSum 0 1025 (paired (heldBy window)) (cosineOf k)
+  lineSum-paired-cosine =
+      by-places tableCosine
+      ∙ placeSum-first 0 (cosineOf k) 2047 (heldBy window)
+      ∙ ap₂ (λ a z. a *ℤ cosineOf k 0 +ℤ z)
+      (sym (paired-0 window))
+      (fold-same 1 1023 1024 2047 refl refl (heldBy window) (cosineOf k)
+      (λ i below. cosine-same k (2047 - i) (1 + i) 2048 (omega arith) (omega arith)))
+      ∙ sym (placeSum-first 0 (cosineOf k) 1024 (paired (heldBy window)))
+
+  pub lineSum-paired-sine : lineSum tableSine window k ≡ placeSum 1025 1023 (paired (heldBy window)) (sineOf k)
+  lineSum-paired-sine =
+      by-places tableSine
+      ∙ placeSum-rest 0 (sineOf k) 2047 (heldBy window) (tableSine-start (0 * k) (omega arith))
+      ∙ fold-opposite 1 1023 1024 2047 refl refl (heldBy window) (sineOf k)
+      (λ i below. sine-opposite k (2047 - i) (1 + i) 2048 (omega arith) (omega arith))
+      ∙ placeSum-rest 1024 (sineOf k) 1023 (paired (heldBy window)) (tableSine-start (1024 * k) (omega arith))
+
+-- ---- card 13's pairs
 
 module _ (window : List ℤ) (k : ℕ) where
   -- so the whole sums are those over the pairs

@@ -26,7 +26,7 @@ fn sum(a: i32, b: i32) -> i32
     a + b
 }
 
-// Their difference.
+// The first less the second.
 fn difference(a: i32, b: i32) -> i32
     requires { ⌜ natAbs a < 2 ^ 30 ⌝ }
     requires { ⌜ natAbs b < 2 ^ 30 ⌝ }

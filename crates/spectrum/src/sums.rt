@@ -1,6 +1,8 @@
 // One line of a folded window: the sums over the places where the line's foldings end, rounded and squared.
 // Samples in range keep every sum below 2^58, so 64 bits hold it whole, and nothing is rounded before the division by 2^29.
 use crate::WINDOW_LENGTH;
+use sine::HALF_TURN;
+use sine::QUARTER_TURN;
 use sine::TURN;
 ghost use mathlib.Core.Bool.{cond};
 ghost use mathlib.Core.Path.{_≡_};
@@ -14,8 +16,6 @@ ghost use Rattle.spectrum.specs.Line.{lineLimit, sumScale};
 ghost use Rattle.spectrum.specs.Folding.{heldBy, placeSum, partSum, cosineOf, EndsAt, sineAhead};
 ghost use Rattle.spectrum.specs.Prepared.{Prepared, Parts, LineOfFolded};
 
-// A quarter turn, by which the cosine is ahead of the sine.
-const QUARTER_TURN: usize = TURN / 4;
 // The first halving is at a quarter of the window.
 const FIRST_HALF: usize = WINDOW_LENGTH / 4;
 // The sums are divided by 2 to this power.
@@ -44,7 +44,7 @@ fn ending_half(k: usize) -> usize
     ensures { λ r. ⌜ EndsAt k r ⌝ }
 {
     let mut half = FIRST_HALF;
-    while half * k % (TURN / 2) == 0 {
+    while half * k % HALF_TURN == 0 {
         half /= 2;
     }
     half
@@ -67,6 +67,7 @@ fn part_sums(
     let mut sine: i64 = 0;
     let mut i = 0;
     while i < cosine_part.len() {
+        // The cosine is a quarter turn ahead of the sine.
         let factor = wave[sine::turn_index((first + i) * k + QUARTER_TURN)];
         cosine = accumulate(cosine, cosine_part[i], factor);
         sine = accumulate(sine, sine_part[i], factor);

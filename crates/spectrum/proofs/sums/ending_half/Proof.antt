@@ -77,4 +77,4 @@ returns c = here (c .before .before .args .k) (c .before .loop .half) (c .before
 
 pub ending-half-spec : {M : Type 1} → statement M
 ending-half-spec =
-    tie.close (tie.spec Inv-loop μ-loop loop-holds mul-loop (λ c. search needs) (λ c. search needs) loop-again returns)
+    tie.close (tie.spec Inv-loop μ-loop loop-holds mul-loop (λ c. search needs) loop-again returns)
