@@ -51,7 +51,7 @@ static void direct_one_loop(void) { one_loop(window, 0, lines, LINES); }
 static void c_folded(void) { folded(window, 0, lines, LINES); }
 
 #ifdef BEFORE
-__typeof__(kifsang_spectrum) before_kifsang_spectrum;
+#include "before_kifsang.h"
 static void before(void) { must_accept(before_kifsang_spectrum(window, SAMPLES, 0, lines, LINES)); }
 #endif
 
@@ -110,9 +110,9 @@ static void count_unequal(void)
         fill_window(EDGE_WINDOWS + n);
         core();
         memcpy(core_lines, lines, sizeof lines);
-        must_accept(kifsang_row(KIFSANG_HARMONIC_GROUP, SYSTEM, lines, LINES, core_row, ORDERS));
+        must_accept(kifsang_row(KIFSANG_HARMONIC_GROUP, SYSTEM, KIFSANG_EDITION_2, lines, LINES, core_row, ORDERS));
         fftw();
-        must_accept(kifsang_row(KIFSANG_HARMONIC_GROUP, SYSTEM, lines, LINES, fftw_row, ORDERS));
+        must_accept(kifsang_row(KIFSANG_HARMONIC_GROUP, SYSTEM, KIFSANG_EDITION_2, lines, LINES, fftw_row, ORDERS));
         for (int k = 0; k < LINES; k++)
             if (core_lines[k] != lines[k]) {
                 unequal_lines++;

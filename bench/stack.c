@@ -18,14 +18,23 @@ static int64_t signed_number;
 
 static void spectrum(void) { kifsang_spectrum(window, KIFSANG_WINDOW_LENGTH, 0, lines, KIFSANG_LINE_COUNT); }
 static void lines_from(void) { kifsang_lines_from(window, KIFSANG_WINDOW_LENGTH, 0, 45, lines, 13); }
-static void group_value(void) { kifsang_group_value(1, 10, 3, lines, KIFSANG_LINE_COUNT, &number); }
-static void whole_row(void) { kifsang_row(1, 10, lines, KIFSANG_LINE_COUNT, row, KIFSANG_ORDER_COUNT); }
+static void group_value(void)
+{
+    kifsang_group_value(1, 10, KIFSANG_EDITION_2, 3, lines, KIFSANG_LINE_COUNT, &number);
+}
+static void whole_row(void)
+{
+    kifsang_row(1, 10, KIFSANG_EDITION_2, lines, KIFSANG_LINE_COUNT, row, KIFSANG_ORDER_COUNT);
+}
 static void distortion(void) { kifsang_distortion(row, KIFSANG_ORDER_COUNT, &number); }
-static void fresh_record(void) { kifsang_fresh_record(10, record, KIFSANG_RECORD_WORDS); }
-static void add_row(void) { kifsang_add_row(record, KIFSANG_RECORD_WORDS, 10, row, KIFSANG_ORDER_COUNT); }
+static void fresh_record(void) { kifsang_fresh_record(10, KIFSANG_EDITION_2, record, KIFSANG_RECORD_WORDS); }
+static void add_row(void)
+{
+    kifsang_add_row(record, KIFSANG_RECORD_WORDS, 10, KIFSANG_EDITION_2, row, KIFSANG_ORDER_COUNT);
+}
 static void observe(void)
 {
-    kifsang_observe(window, KIFSANG_WINDOW_LENGTH, 0, 1, 10, 1, record, KIFSANG_RECORD_WORDS);
+    kifsang_observe(window, KIFSANG_WINDOW_LENGTH, 0, 1, 10, KIFSANG_EDITION_2, 1, record, KIFSANG_RECORD_WORDS);
 }
 static void limit(void) { kifsang_limit(39, KIFSANG_CLASS_B, &number, &other_number); }
 static void judge(void) { kifsang_verdict(record, KIFSANG_RECORD_WORDS, 3, KIFSANG_CLASS_B, 1000000, &verdict); }

@@ -1,10 +1,10 @@
 #!/usr/bin/env python3
 """Draws a report of examples/c/report.c as a picture: for each order a bar of the average with its
 margin, in the colour of the verdict, and the peak as a ring; beside the bar the order's limit, with its
-figure. Limits, margin and verdicts are those of the report. Writes SVG; refuses what is no report, with
-status 1, and every argument, with status 2.
+figure. Limits, margin and verdicts are those of the report; an edition other than 2 is named. Writes SVG;
+refuses what is no report, with status 1, and every argument, with status 2.
 
-    report CLASS_LETTER UNITS_PER_AMPERE < recording | picture.py > picture.svg
+    report CLASS_LETTER UNITS_PER_AMPERE [EDITION] < recording | picture.py > picture.svg
 """
 
 import math
@@ -13,10 +13,18 @@ import sys
 from typing import NamedTuple, Optional
 
 ORDERS = 40
-HEAD = ["system", "windows", "units per ampere", "margin, units"]  # after the class
+ABOVE_0 = "[1-9][0-9]{0,19}"
+HEAD = {  # the names of the head's lines, and what may stand there
+    "class": "[AB]",
+    "system": ABOVE_0,
+    "edition": r"2|2\.0 A1",
+    "windows": ABOVE_0,
+    "units per ampere": ABOVE_0,
+    "margin, units": ABOVE_0,
+}
 COLUMNS = "order  average, units  peak, units  limit, mA  as decimal  peak limit, mA  verdict"
 WHOLE, DECIMAL = " +([0-9]{1,20})", r" +([0-9]{1,20}\.[0-9]{1,20})"
-LIMIT = " +([1-9][0-9]{0,19}(?:/[1-9][0-9]{0,19})?)"
+LIMIT = f" +({ABOVE_0}(?:/{ABOVE_0})?)"
 LINE = re.compile(f"{WHOLE}{DECIMAL}{WHOLE}(?:{LIMIT}{DECIMAL}{DECIMAL}  (within|close|over)| +-  +-  +-  -)")
 COLOURS = {"within": "#2e6da4", "close": "#e39b1f", "over": "#c0392b", None: "#8a8f94"}
 
@@ -48,19 +56,16 @@ class Order(NamedTuple):
 
 
 def read_report(text):
-    """The class of the report's head, its four numbers, and its orders; ValueError for any other text."""
-    first, *lines = text.split("\n")
+    """What the lines of the report's head hold, and its orders; ValueError for any other text."""
+    lines = text.split("\n")
     if len(lines) != len(HEAD) + 2 + ORDERS + 1 or lines[-1] != "":
         raise ValueError("no report")
-    class_letter = re.fullmatch("class +([AB])", first)
-    if class_letter is None:
-        raise ValueError("no report: no class that is known")
     head = []
-    for name, line in zip(HEAD, lines):
-        found = re.fullmatch(re.escape(name) + WHOLE, line)
-        if found is None or int(found[1]) == 0:
-            raise ValueError(f"no report: {name} is missing")
-        head.append(int(found[1]))
+    for (name, known), line in zip(HEAD.items(), lines):
+        found = re.fullmatch(f"{re.escape(name)} +({known})", line)
+        if found is None:
+            raise ValueError(f"no report: the line of {name}")
+        head.append(found[1])
     if lines[len(HEAD)] != "" or lines[len(HEAD) + 1] != COLUMNS:
         raise ValueError("no report: its columns are not named")
     orders = []
@@ -70,12 +75,14 @@ def read_report(text):
             raise ValueError(f"no report: the line of order {number}")
         limit, peak_limit = (None, None) if number == 1 else (limit_of(found[4]), float(found[6]))
         orders.append(Order(float(found[2]), int(found[3]), limit, peak_limit, found[7]))
-    return class_letter[1], head, orders
+    return head, orders
 
 
-def picture(class_letter, head, orders):
+def picture(head, orders):
     """The picture's lines."""
-    system, windows, units_per_ampere, margin = head
+    class_letter, system, edition, windows = head[:4]
+    units_per_ampere, margin = map(int, head[4:])
+    amended = "" if edition == "2" else f" edition {edition};"
     highest = max(max(order.peak / units_per_ampere, (order.peak_limit or 0) / 1000) for order in orders)
     least, most = math.log10(LEAST), math.ceil(math.log10(max(highest, 10 * LEAST)))
     step = (WIDTH - LEFT - RIGHT) / ORDERS
@@ -112,7 +119,7 @@ def picture(class_letter, head, orders):
         f'<svg xmlns="http://www.w3.org/2000/svg" width="{WIDTH}" height="{HEIGHT}" font-family="sans-serif" font-size="12">',
         f'<rect width="{WIDTH}" height="{HEIGHT}" fill="white"/>',
         words(LEFT, 24, f"Smoothed harmonic groups against class {class_letter}; limits and verdicts are the core's", ' font-size="15"'),
-        words(LEFT, 44, f"System {system}; windows: {windows}; units per ampere: {units_per_ampere}"),
+        words(LEFT, 44, f"System {system};{amended} windows: {windows}; units per ampere: {units_per_ampere}"),
     ]
     for power in range(round(least), most + 1):
         y = height(10.0**power)

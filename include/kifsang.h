@@ -1,9 +1,10 @@
 /*
  * kifsang.h: the harmonic core of a power analyser, for C and C++ programs.
  *
- * From the samples of a mains current to its spectrum, its harmonic and interharmonic groups
- * after IEC 61000-4-7, values smoothed over 1.5 s, and a verdict for each order against class A or B
- * of IEC 61000-3-2. Each function is proved to answer what its definition says, for every input.
+ * From the samples of a mains current to its spectrum, its harmonic and interharmonic groups after
+ * IEC 61000-4-7, edition 2 or its amendment A1, values smoothed over 1.5 s, and a verdict for each order
+ * against class A or B of IEC 61000-3-2. Each function is proved to answer what its definition says, for
+ * every input.
  * Kifsang is the name of the product; every symbol begins with it.
  *
  * From samples to verdicts
@@ -14,7 +15,7 @@
  *
  *     The same record a window at a time, where memory holds no more:
  *
- *     kifsang_fresh_record   a system                     ->  a record with no window
+ *     kifsang_fresh_record   a system and an edition      ->  a record with no window
  *     kifsang_spectrum       a window of 2,048 samples    ->  512 lines
  *     kifsang_row            the lines of a window        ->  the 40 values of a kind, a row
  *     kifsang_add_row        a record and a row           ->  the record with one window more
@@ -47,6 +48,12 @@
  *         interharmonic group               1..system-1, weight 1
  *         interharmonic centred subgroup    2..system-2, weight 1
  *
+ *     An edition of IEC 61000-4-7 is named by a number, 0 for edition 2 and 1 for its amendment A1. A1
+ *     groups interharmonics from the second order up, so under it the harmonic group of order 1 is its
+ *     component alone. All other groups, and the other kinds, are the same in both editions. Verdicts are
+ *     of the orders 2..40, so the same windows have the same verdicts in both; the distortion of a row of
+ *     harmonic groups is a ratio to order 1, so it may differ.
+ *
  * Limits
  *
  *     Class A, in milliamperes: order 2 1080, 3 2300, 4 430, 5 1140, 6 300, 7 770, 9 400, 11 330,
@@ -61,11 +68,12 @@
  *
  * Records
  *
- *     A record is 122 words that the caller keeps; the calls read and write them at the places below.
- *     It is sound if its system is 10 or 12, it holds at most 45,000 windows (2.5 hours), no sum is
- *     above windows * (2^32 - 1), no smoothed value and no peak is above 2^32 - 1, and with no window
- *     all the others are 0 (isSound, crates/observation/specs/Soundness.antt). A record that the calls
- *     made stays sound; any other 122 words may be handed over, and are judged by this alone.
+ *     A record is 123 words that the caller keeps; the calls read and write them at the places below.
+ *     It is sound if its system is 10 or 12, its edition is 0 or 1, it holds at most 45,000 windows (2.5
+ *     hours), no sum is above windows * (2^32 - 1), no smoothed value and no peak is above 2^32 - 1, and
+ *     with no window all smoothed values, sums and peaks are 0 (isSound,
+ *     crates/observation/specs/Soundness.antt). A record that the calls made stays sound; any other 123
+ *     words may be handed over, and are judged by this alone.
  *
  * Memory and threads
  *
@@ -117,8 +125,9 @@ extern "C" {
 
 /* The places of a record's parts among its words. The last three are the first of 40 places each. */
 #define KIFSANG_SYSTEM_PLACE 0
-#define KIFSANG_WINDOWS_PLACE 1
-#define KIFSANG_SMOOTHED_PLACE 2
+#define KIFSANG_EDITION_PLACE 1
+#define KIFSANG_WINDOWS_PLACE 2
+#define KIFSANG_SMOOTHED_PLACE 3
 #define KIFSANG_SUM_PLACE (KIFSANG_SMOOTHED_PLACE + KIFSANG_ORDER_COUNT)
 #define KIFSANG_PEAK_PLACE (KIFSANG_SUM_PLACE + KIFSANG_ORDER_COUNT)
 #define KIFSANG_RECORD_WORDS (KIFSANG_PEAK_PLACE + KIFSANG_ORDER_COUNT)
@@ -133,7 +142,7 @@ enum kifsang_refusal {
     KIFSANG_LINE_TOO_LARGE = 5,       /* a line above 2^59 */
     KIFSANG_ORDER_OUT_OF_RANGE = 6,   /* an order outside the orders of the call */
     KIFSANG_UNSOUND_RECORD = 7,       /* words that are not a sound record */
-    KIFSANG_OTHER_SYSTEM = 8,         /* a row whose system is not the record's */
+    KIFSANG_OTHER_SETUP = 8,          /* a row whose system or edition is not the record's */
     KIFSANG_RECORD_FULL = 9,          /* the record holds 45,000 windows */
     KIFSANG_NO_WINDOW = 10,           /* the record holds no window yet */
     KIFSANG_SCALE_OUT_OF_RANGE = 11,  /* units per ampere outside 1..2^28 */
@@ -141,8 +150,15 @@ enum kifsang_refusal {
     KIFSANG_NOT_A_COLUMN = 13,        /* no number column, or a number wider than its column */
     KIFSANG_WRONG_BUFFER_LENGTH = 14, /* a text buffer of the wrong length */
     KIFSANG_UNKNOWN_CLASS = 15,       /* a class letter other than A or B */
+    KIFSANG_UNKNOWN_EDITION = 19,     /* the edition is neither 0 nor 1 */
     KIFSANG_UNKNOWN_KIND = 101,       /* a number that stands for no kind */
-    KIFSANG_WRONG_WORD_COUNT = 102    /* not 40 words for a row, or not 122 for a record */
+    KIFSANG_WRONG_WORD_COUNT = 102    /* not 40 words for a row, or not 123 for a record */
+};
+
+/* The editions of IEC 61000-4-7. */
+enum kifsang_edition {
+    KIFSANG_EDITION_2 = 0,
+    KIFSANG_EDITION_A1 = 1 /* edition 2 with its amendment A1 */
 };
 
 /* Which lines a group has. */
@@ -169,8 +185,8 @@ enum kifsang_verdict_number {
     KIFSANG_OVER = 3
 };
 
-/* A record is 122 words. */
-typedef char kifsang_assert_record_of_122_words[KIFSANG_RECORD_WORDS == 122 ? 1 : -1];
+/* A record is 123 words. */
+typedef char kifsang_assert_record_of_123_words[KIFSANG_RECORD_WORDS == 123 ? 1 : -1];
 
 /*
  * Works out the spectral lines of a window.
@@ -216,38 +232,40 @@ uint32_t kifsang_lines_from(const int32_t *recording, uint64_t recording_length,
  *
  *   kind        in    0..4, an enum kifsang_kind
  *   system      in    10 or 12 cycles in the window
+ *   edition     in    0 or 1, an enum kifsang_edition
  *   order       in    1..40
  *   lines       in    line_count lines, each at most 2^59
  *   line_count  in    512
  *   value       out   one number, in units, below 2^32
  *
- * Refusals: 101 no such kind; 1 system not 10 or 12; 6 order outside 1..40; 4 line_count is not 512;
- *   5 a line above 2^59. A refused call leaves the value as it was.
+ * Refusals: 101 no such kind; 1 system not 10 or 12; 19 edition not 0 or 1; 6 order outside 1..40; 4
+ *   line_count is not 512; 5 a line above 2^59. A refused call leaves the value as it was.
  * Proved error: for the lines that kifsang_spectrum left for a window, the value is at most 7 units
- *   from the exact group (exported-demand3).
+ *   from the exact group of the edition (exported-demand3).
  * Definition: groupCallRefusal and groupCallExit, crates/exported_windows/specs/GroupCalls.antt.
  */
-uint32_t kifsang_group_value(uint32_t kind, uint32_t system, uint32_t order, const uint64_t *lines,
-                             uint64_t line_count, uint64_t *value);
+uint32_t kifsang_group_value(uint32_t kind, uint32_t system, uint32_t edition, uint32_t order,
+                             const uint64_t *lines, uint64_t line_count, uint64_t *value);
 
 /*
  * Works out the 40 group values of a kind, a row.
  *
  *   kind         in    0..4, an enum kifsang_kind
  *   system       in    10 or 12 cycles in the window
+ *   edition      in    0 or 1, an enum kifsang_edition
  *   lines        in    line_count lines, each at most 2^59
  *   line_count   in    512
  *   values       out   value_count values, in units
  *   value_count  in    40
  *
- * Refusals: 101 no such kind; 102 value_count is not 40; 1 system not 10 or 12; 4 line_count is not
- *   512; 5 a line above 2^59. A refused call leaves the values as they were.
+ * Refusals: 101 no such kind; 102 value_count is not 40; 1 system not 10 or 12; 19 edition not 0 or 1;
+ *   4 line_count is not 512; 5 a line above 2^59. A refused call leaves the values as they were.
  * Proved error: that of kifsang_group_value, for each order. For the lines that kifsang_spectrum left
  *   for a window, the row is one of those that kifsang_add_row speaks of (exported-demand3).
  * Definition: rowCallRefusal and rowCallExit, crates/exported_windows/specs/GroupCalls.antt.
  */
-uint32_t kifsang_row(uint32_t kind, uint32_t system, const uint64_t *lines, uint64_t line_count,
-                     uint32_t *values, uint64_t value_count);
+uint32_t kifsang_row(uint32_t kind, uint32_t system, uint32_t edition, const uint64_t *lines,
+                     uint64_t line_count, uint32_t *values, uint64_t value_count);
 
 /*
  * Works out the group distortion of a row: the largest whole t with t^2 * value[0]^2 at most 1000000
@@ -267,18 +285,20 @@ uint32_t kifsang_distortion(const uint32_t *values, uint64_t value_count,
                             uint64_t *parts_per_thousand);
 
 /*
- * Begins an observation: a record of a system with no window.
+ * Begins an observation: a record of a system and an edition with no window.
  *
  *   system        in    10 or 12 cycles in a window
+ *   edition       in    0 or 1, an enum kifsang_edition
  *   record        out   record_words words, at the places above
- *   record_words  in    122
+ *   record_words  in    123
  *
- * Refusals: 102 record_words is not 122; 1 system not 10 or 12. A refused call leaves the record as
- *   it was.
+ * Refusals: 102 record_words is not 123; 1 system not 10 or 12; 19 edition not 0 or 1. A refused call
+ *   leaves the record as it was.
  * Proved error: none.
  * Definition: freshCallRefusal and freshCallExit, crates/exported_records/specs/RecordCalls.antt.
  */
-uint32_t kifsang_fresh_record(uint32_t system, uint64_t *record, uint64_t record_words);
+uint32_t kifsang_fresh_record(uint32_t system, uint32_t edition, uint64_t *record,
+                              uint64_t record_words);
 
 /*
  * Adds the row of one window to a record. The first row becomes the smoothed values; later
@@ -286,20 +306,21 @@ uint32_t kifsang_fresh_record(uint32_t system, uint64_t *record, uint64_t record
  * added to the sums, and the peaks become the greater of themselves and the smoothed values.
  *
  *   record        inout  record_words words; any words may be handed over
- *   record_words  in     122
+ *   record_words  in     123
  *   system        in     the row's: 10 or 12 cycles in a window
+ *   edition       in     the row's: 0 or 1, an enum kifsang_edition
  *   values        in     value_count values, in units
  *   value_count   in     40
  *
- * Refusals: 102 record_words is not 122 or value_count is not 40; 7 the record is not sound; 1 system
- *   not 10 or 12; 8 another system than the record's; 9 the record holds 45,000 windows. A refused
- *   call leaves the record as it was.
+ * Refusals: 102 record_words is not 123 or value_count is not 40; 7 the record is not sound; 1 system
+ *   not 10 or 12; 19 edition not 0 or 1; 8 another system or another edition than the record's; 9 the
+ *   record holds 45,000 windows. A refused call leaves the record as it was.
  * Proved error: after any calls since a fresh record or an observation, where the rows that were added
- *   come from kifsang_spectrum and kifsang_row, all of one kind and with their own system, each smoothed
- *   value is at most 12 units from the exact one (exported-demand3).
+ *   come from kifsang_spectrum and kifsang_row, all of one kind and with their own system and edition,
+ *   each smoothed value is at most 12 units from the exact one (exported-demand3).
  * Definition: addRowCallRefusal and addRowCallExit, crates/exported_records/specs/RecordCalls.antt.
  */
-uint32_t kifsang_add_row(uint64_t *record, uint64_t record_words, uint32_t system,
+uint32_t kifsang_add_row(uint64_t *record, uint64_t record_words, uint32_t system, uint32_t edition,
                          const uint32_t *values, uint64_t value_count);
 
 /*
@@ -312,21 +333,22 @@ uint32_t kifsang_add_row(uint64_t *record, uint64_t record_words, uint32_t syste
  *   start             in    the place of the first window's first sample, any
  *   windows           in    0..45000; 0 leaves a fresh record
  *   system            in    10 or 12 cycles in a window
+ *   edition           in    0 or 1, an enum kifsang_edition
  *   kind              in    0..4, an enum kifsang_kind
  *   record            out   record_words words, at the places above
- *   record_words      in    122
+ *   record_words      in    123
  *
- * Refusals: 101 no such kind; 102 record_words is not 122; 1 system not 10 or 12; then for each window
- *   in turn: 2 fewer than 2,048 samples from its start; 3 a sample of it outside -131071..131071; 9
- *   45,000 windows are before it. A refused call leaves the record as it was.
+ * Refusals: 101 no such kind; 102 record_words is not 123; 1 system not 10 or 12; 19 edition not 0 or 1;
+ *   then for each window in turn: 2 fewer than 2,048 samples from its start; 3 a sample of it outside
+ *   -131071..131071; 9 45,000 windows are before it. A refused call leaves the record as it was.
  * Proved error: each smoothed value is at most 12 units from the exact one, and a verdict that is asked
  *   of the record keeps what kifsang_verdict says of it (exported-demand3).
  * Definition: observeAnswer, crates/observe/specs/Observe.antt, and observeCallRefusal and
  *   observeCallExit, crates/exported_windows/specs/ObserveCall.antt.
  */
 uint32_t kifsang_observe(const int32_t *recording, uint64_t recording_length, uint64_t start,
-                         uint64_t windows, uint32_t system, uint32_t kind, uint64_t *record,
-                         uint64_t record_words);
+                         uint64_t windows, uint32_t system, uint32_t edition, uint32_t kind,
+                         uint64_t *record, uint64_t record_words);
 
 /*
  * Looks up the limit of an order in a class: the milliamperes r.m.s. up to which the average of the order
@@ -355,13 +377,13 @@ uint32_t kifsang_limit(uint32_t order, uint8_t class_letter, uint64_t *numerator
  * close.
  *
  *   record            in    record_words words; any words may be handed over
- *   record_words      in    122
+ *   record_words      in    123
  *   order             in    2..40
  *   class_letter      in    'A' or 'B', an enum kifsang_class
  *   units_per_ampere  in    1..268435456, the units that one ampere r.m.s. gives
  *   verdict           out   one number, 1..3, an enum kifsang_verdict_number
  *
- * Refusals: 102 record_words is not 122; 7 the record is not sound; 10 no window yet; 6 order outside
+ * Refusals: 102 record_words is not 123; 7 the record is not sound; 10 no window yet; 6 order outside
  *   2..40; 15 class_letter not A or B; 11 units_per_ampere outside 1..2^28. A refused call leaves the
  *   verdict as it was.
  * Proved error: after calls as above, within and over hold for the exact average and peak too; close

@@ -1,16 +1,17 @@
 /* A test report of a recording in a class:
  *
- *     report CLASS_LETTER UNITS_PER_AMPERE < recording
+ *     report CLASS_LETTER UNITS_PER_AMPERE [EDITION] < recording
  *
- * The recording has the input form of harmlist: a line with the system, then a line for each sample,
- * windows back to back; a line is a number column of 8 bytes and a newline. Verdicts and limits are
- * the core's, the margin about a limit and the peak's per cent the header's: this program has no rule
+ * The edition of IEC 61000-4-7 is 0 for edition 2, which is taken where none is given, or 1 for its
+ * amendment A1. The recording has the input form of harmlist: a line with the system, then a line for each
+ * sample, windows back to back; a line is a number column of 8 bytes and a newline. Verdicts and limits
+ * are the core's, the margin about a limit and the peak's per cent the header's: this program has no rule
  * of its own.
  *
  * Where the recording has a fault, the output is only the line that harmlist writes for it, `refused`
- * and a number; a class letter that the core refuses gives such a line with 15, units per ampere with
- * 11. The exit status is then 1. It is 2 where the program was called wrongly, or could not read or
- * write. */
+ * and a number. An edition that the core refuses gives such a line with 19, directly after the system
+ * is known; then a class letter with 15, and units per ampere with 11. The exit status is then 1. It is
+ * 2 where the program was called wrongly, or could not read or write. */
 #include "kifsang.h"
 #include "verdict_word.h"
 
@@ -56,7 +57,7 @@ static uint32_t read_samples(FILE *input, int32_t samples[KIFSANG_WINDOW_LENGTH]
 
 /* Adds the next window of the input to the record. A sample out of range comes before a fault on a
  * later line, so the core sees the samples first, with zeros from that line on. */
-static uint32_t add_window(FILE *input, uint32_t system, uint64_t record[KIFSANG_RECORD_WORDS])
+static uint32_t add_window(FILE *input, uint32_t system, uint32_t edition, uint64_t record[KIFSANG_RECORD_WORDS])
 {
     int32_t samples[KIFSANG_WINDOW_LENGTH] = {0};
     uint64_t lines[KIFSANG_LINE_COUNT];
@@ -66,22 +67,23 @@ static uint32_t add_window(FILE *input, uint32_t system, uint64_t record[KIFSANG
     if (refusal == KIFSANG_NO_REFUSAL)
         refusal = fault;
     if (refusal == KIFSANG_NO_REFUSAL)
-        refusal = kifsang_row(KIFSANG_HARMONIC_GROUP, system, lines, KIFSANG_LINE_COUNT, row, KIFSANG_ORDER_COUNT);
+        refusal = kifsang_row(KIFSANG_HARMONIC_GROUP, system, edition, lines, KIFSANG_LINE_COUNT, row,
+                              KIFSANG_ORDER_COUNT);
     if (refusal == KIFSANG_NO_REFUSAL)
-        refusal = kifsang_add_row(record, KIFSANG_RECORD_WORDS, system, row, KIFSANG_ORDER_COUNT);
+        refusal = kifsang_add_row(record, KIFSANG_RECORD_WORDS, system, edition, row, KIFSANG_ORDER_COUNT);
     return refusal;
 }
 
-/* The record of the whole input. */
-static uint32_t read_recording(FILE *input, uint64_t record[KIFSANG_RECORD_WORDS])
+/* The record of the whole input, under an edition. */
+static uint32_t read_recording(FILE *input, uint32_t edition, uint64_t record[KIFSANG_RECORD_WORDS])
 {
     int64_t number = 0;
     uint32_t refusal = read_line(input, &number);
     uint32_t system = (uint32_t)number; /* of a number below 0 it makes a large one, which is no system */
     if (refusal == KIFSANG_NO_REFUSAL)
-        refusal = kifsang_fresh_record(system, record, KIFSANG_RECORD_WORDS);
+        refusal = kifsang_fresh_record(system, edition, record, KIFSANG_RECORD_WORDS);
     while (refusal == KIFSANG_NO_REFUSAL && !at_end(input))
-        refusal = add_window(input, system, record);
+        refusal = add_window(input, system, edition, record);
     return refusal;
 }
 
@@ -118,6 +120,7 @@ static void print_report(const uint64_t record[KIFSANG_RECORD_WORDS], uint8_t cl
     uint64_t windows = record[KIFSANG_WINDOWS_PLACE];
     printf("class             %9c\n", class_letter);
     printf("system            %9" PRIu64 "\n", record[KIFSANG_SYSTEM_PLACE]);
+    printf("edition           %9s\n", record[KIFSANG_EDITION_PLACE] == KIFSANG_EDITION_A1 ? "2.0 A1" : "2");
     printf("windows           %9" PRIu64 "\n", windows);
     printf("units per ampere  %9" PRIu32 "\n", units_per_ampere);
     printf("margin, units     %9d\n\n", KIFSANG_SMOOTHED_MARGIN);
@@ -141,14 +144,14 @@ static uint8_t letter_of(const char *text)
     return text[0] != '\0' && text[1] == '\0' ? (uint8_t)text[0] : 0;
 }
 
-/* The number of a text of digits. For any other text, and a number of more than 32 bits, 0, which the
- * core refuses. */
-static uint32_t scale_of(const char *text)
+/* The number of a text of digits, at least one. For any other text, and a number of more than 32 bits, the
+ * other number, which the core refuses. */
+static uint32_t number_of(const char *text, uint32_t other)
 {
-    uint64_t scale = 0;
-    for (; *text >= '0' && *text <= '9' && scale <= UINT32_MAX; text++)
-        scale = 10 * scale + (uint64_t)(*text - '0');
-    return *text == '\0' && scale <= UINT32_MAX ? (uint32_t)scale : 0;
+    uint64_t number = *text == '\0' ? UINT64_MAX : 0;
+    for (; *text >= '0' && *text <= '9' && number <= UINT32_MAX; text++)
+        number = 10 * number + (uint64_t)(*text - '0');
+    return *text == '\0' && number <= UINT32_MAX ? (uint32_t)number : other;
 }
 
 static int failed(const char *what)
@@ -161,11 +164,13 @@ int main(int count, char **arguments)
 {
     uint64_t record[KIFSANG_RECORD_WORDS] = {0};
     struct judgement judgements[KIFSANG_ORDER_COUNT] = {0};
-    if (count != 3)
-        return failed("usage: report CLASS_LETTER UNITS_PER_AMPERE < recording");
+    if (count != 3 && count != 4)
+        return failed("usage: report CLASS_LETTER UNITS_PER_AMPERE [EDITION] < recording, "
+                      "with 0 for edition 2 and 1 for A1");
     uint8_t class_letter = letter_of(arguments[1]);
-    uint32_t units_per_ampere = scale_of(arguments[2]);
-    uint32_t refusal = read_recording(stdin, record);
+    uint32_t units_per_ampere = number_of(arguments[2], 0);
+    uint32_t edition = count == 4 ? number_of(arguments[3], UINT32_MAX) : KIFSANG_EDITION_2;
+    uint32_t refusal = read_recording(stdin, edition, record);
     if (ferror(stdin))
         return failed("the recording cannot be read");
     if (refusal == KIFSANG_NO_REFUSAL)

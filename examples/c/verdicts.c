@@ -7,9 +7,10 @@
 #include <math.h>
 #include <stdio.h>
 
-#define SYSTEM 10              /* cycles in a window: 50 Hz */
-#define WINDOWS 15             /* 3 s */
-#define COUNTS_PER_AMPERE 1600 /* of the converter with its sensor */
+#define SYSTEM 10                 /* cycles in a window: 50 Hz */
+#define EDITION KIFSANG_EDITION_2 /* of IEC 61000-4-7; A1 changes order 1 alone, which has no limit */
+#define WINDOWS 15                /* 3 s */
+#define COUNTS_PER_AMPERE 1600    /* of the converter with its sensor */
 #define SAMPLES (WINDOWS * KIFSANG_WINDOW_LENGTH)
 #define UNITS_PER_AMPERE (COUNTS_PER_AMPERE * KIFSANG_UNITS_PER_COUNT)
 
@@ -37,8 +38,8 @@ int main(void)
     uint64_t record[KIFSANG_RECORD_WORDS];
 
     take_samples(samples);
-    if (refused("observe", kifsang_observe(samples, SAMPLES, 0, WINDOWS, SYSTEM, KIFSANG_HARMONIC_GROUP, record,
-                                           KIFSANG_RECORD_WORDS)))
+    if (refused("observe", kifsang_observe(samples, SAMPLES, 0, WINDOWS, SYSTEM, EDITION, KIFSANG_HARMONIC_GROUP,
+                                           record, KIFSANG_RECORD_WORDS)))
         return 1;
     for (uint32_t order = 2; order <= KIFSANG_ORDER_COUNT; order++) {
         uint32_t in_a = 0, in_b = 0;

@@ -14,6 +14,7 @@
 #include <sys/mman.h>
 
 #define SYSTEM 12
+#define EDITION KIFSANG_EDITION_A1
 #define KIND KIFSANG_HARMONIC_GROUP
 #define BLOCK_WINDOWS 64
 #define BLOCKS 704 /* 45,056 windows */
@@ -58,40 +59,41 @@ static int32_t *recording_of(const int32_t block[BLOCK_SAMPLES])
 }
 
 /* The record by the calls one by one, with the row of each window of the block worked out once. */
-static void chain(const int32_t block[BLOCK_SAMPLES], uint64_t record[122])
+static void chain(const int32_t block[BLOCK_SAMPLES], uint64_t record[123])
 {
     static uint32_t rows[BLOCK_WINDOWS][40];
     for (uint64_t i = 0; i < BLOCK_WINDOWS; i++) {
         uint64_t lines[512];
         same("spectrum", kifsang_spectrum(block, BLOCK_SAMPLES, i * 2048, lines, 512), 0);
-        same("row", kifsang_row(KIND, SYSTEM, lines, 512, rows[i], 40), 0);
+        same("row", kifsang_row(KIND, SYSTEM, EDITION, lines, 512, rows[i], 40), 0);
     }
-    same("fresh record", kifsang_fresh_record(SYSTEM, record, 122), 0);
+    same("fresh record", kifsang_fresh_record(SYSTEM, EDITION, record, 123), 0);
     for (uint64_t i = 0; i < windows; i++)
-        same("add row", kifsang_add_row(record, 122, SYSTEM, rows[i % BLOCK_WINDOWS], 40), 0);
-    same("add row to a full record", kifsang_add_row(record, 122, SYSTEM, rows[0], 40), 9);
+        same("add row", kifsang_add_row(record, 123, SYSTEM, EDITION, rows[i % BLOCK_WINDOWS], 40), 0);
+    same("add row to a full record", kifsang_add_row(record, 123, SYSTEM, EDITION, rows[0], 40), 9);
 }
 
 static void refuse(const char *what, const int32_t *recording, uint64_t length, uint32_t number)
 {
-    uint64_t record[122];
-    for (int i = 0; i < 122; i++)
+    uint64_t record[123];
+    for (int i = 0; i < 123; i++)
         record[i] = BEFORE;
-    same(what, kifsang_observe(recording, length, 0, windows + 1, SYSTEM, KIND, record, 122), number);
-    for (int i = 0; i < 122; i++)
+    same(what, kifsang_observe(recording, length, 0, windows + 1, SYSTEM, EDITION, KIND, record, 123), number);
+    for (int i = 0; i < 123; i++)
         same(what, record[i], BEFORE);
 }
 
 int main(void)
 {
     static int32_t block[BLOCK_SAMPLES];
-    uint64_t record[122], chained[122];
+    uint64_t record[123], chained[123];
     fill(block);
     int32_t *recording = recording_of(block);
-    same("45,000 windows", kifsang_observe(recording, full, 0, windows, SYSTEM, KIND, record, 122), 0);
+    same("45,000 windows", kifsang_observe(recording, full, 0, windows, SYSTEM, EDITION, KIND, record, 123), 0);
     chain(block, chained);
-    same("the count of windows", record[1], 45000);
-    for (int i = 0; i < 122; i++)
+    same("the edition", record[1], 1);
+    same("the count of windows", record[2], 45000);
+    for (int i = 0; i < 123; i++)
         same("the record of the calls one by one", record[i], chained[i]);
     refuse("window 45,001 short", recording, full + 2047, 2);
     refuse("window 45,001 whole", recording, full + 2048, 9);

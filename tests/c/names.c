@@ -1,6 +1,6 @@
-/* Every name of include/kifsang.h that stands for a number, with its figure; and the kinds, the places,
- * the classes, the margin and the peak's per cent by name, on calls whose answers documents 01 and 02 have
- * in figures. With an argument it prints the names instead, a line for each, so that they can be compared
+/* Every name of include/kifsang.h that stands for a number, with its figure; and the kinds, the editions,
+ * the places, the classes, the margin and the peak's per cent by name, on calls whose answers documents 01
+ * and 02 have in figures. With an argument it prints the names instead, a line for each, so that they can be compared
  * with those of the header. */
 #include "kifsang.h"
 
@@ -30,11 +30,12 @@ static const struct {
     NAME(KIFSANG_PEAK_PERCENT, 150),
 
     NAME(KIFSANG_SYSTEM_PLACE, 0),
-    NAME(KIFSANG_WINDOWS_PLACE, 1),
-    NAME(KIFSANG_SMOOTHED_PLACE, 2),
-    NAME(KIFSANG_SUM_PLACE, 42),
-    NAME(KIFSANG_PEAK_PLACE, 82),
-    NAME(KIFSANG_RECORD_WORDS, 122),
+    NAME(KIFSANG_EDITION_PLACE, 1),
+    NAME(KIFSANG_WINDOWS_PLACE, 2),
+    NAME(KIFSANG_SMOOTHED_PLACE, 3),
+    NAME(KIFSANG_SUM_PLACE, 43),
+    NAME(KIFSANG_PEAK_PLACE, 83),
+    NAME(KIFSANG_RECORD_WORDS, 123),
 
     NAME(KIFSANG_NO_REFUSAL, 0),
     NAME(KIFSANG_UNKNOWN_SYSTEM, 1),
@@ -44,7 +45,7 @@ static const struct {
     NAME(KIFSANG_LINE_TOO_LARGE, 5),
     NAME(KIFSANG_ORDER_OUT_OF_RANGE, 6),
     NAME(KIFSANG_UNSOUND_RECORD, 7),
-    NAME(KIFSANG_OTHER_SYSTEM, 8),
+    NAME(KIFSANG_OTHER_SETUP, 8),
     NAME(KIFSANG_RECORD_FULL, 9),
     NAME(KIFSANG_NO_WINDOW, 10),
     NAME(KIFSANG_SCALE_OUT_OF_RANGE, 11),
@@ -52,6 +53,7 @@ static const struct {
     NAME(KIFSANG_NOT_A_COLUMN, 13),
     NAME(KIFSANG_WRONG_BUFFER_LENGTH, 14),
     NAME(KIFSANG_UNKNOWN_CLASS, 15),
+    NAME(KIFSANG_UNKNOWN_EDITION, 19),
     NAME(KIFSANG_UNKNOWN_KIND, 101),
     NAME(KIFSANG_WRONG_WORD_COUNT, 102),
 
@@ -61,6 +63,9 @@ static const struct {
     NAME(KIFSANG_INTERHARMONIC_GROUP, 3),
     NAME(KIFSANG_INTERHARMONIC_CENTRED_SUBGROUP, 4),
 
+    NAME(KIFSANG_EDITION_2, 0),
+    NAME(KIFSANG_EDITION_A1, 1),
+
     NAME(KIFSANG_CLASS_A, 65),
     NAME(KIFSANG_CLASS_B, 66),
 
@@ -69,18 +74,19 @@ static const struct {
     NAME(KIFSANG_OVER, 3),
 };
 
-/* Every line of the pulse, document 01's worked numbers 3 to 7 at system 10: no two kinds are alike. */
+/* Every line of the pulse, document 01's worked numbers 3 to 7 at system 10: no two kinds are alike. The
+ * values of order 1 under edition 2, which are those of order 2 in both, and of order 1 under A1. */
 static const uint64_t pulse_line = 4000000;
 static const struct {
     const char *name;
     uint32_t kind;
-    uint64_t value;
+    uint64_t value, first_under_a1;
 } kinds[] = {
-    {"component", KIFSANG_COMPONENT, 2828},
-    {"harmonic group", KIFSANG_HARMONIC_GROUP, 8944},
-    {"harmonic subgroup", KIFSANG_HARMONIC_SUBGROUP, 4898},
-    {"interharmonic group", KIFSANG_INTERHARMONIC_GROUP, 8485},
-    {"interharmonic centred subgroup", KIFSANG_INTERHARMONIC_CENTRED_SUBGROUP, 7483},
+    {"component", KIFSANG_COMPONENT, 2828, 2828},
+    {"harmonic group", KIFSANG_HARMONIC_GROUP, 8944, 2828},
+    {"harmonic subgroup", KIFSANG_HARMONIC_SUBGROUP, 4898, 4898},
+    {"interharmonic group", KIFSANG_INTERHARMONIC_GROUP, 8485, 8485},
+    {"interharmonic centred subgroup", KIFSANG_INTERHARMONIC_CENTRED_SUBGROUP, 7483, 7483},
 };
 
 static void same(const char *what, uint64_t found, uint64_t figure)
@@ -91,28 +97,38 @@ static void same(const char *what, uint64_t found, uint64_t figure)
     exit(1);
 }
 
-static void try_kinds(void)
+/* A group value of the pulse. */
+static uint64_t value_of(uint32_t kind, uint32_t edition, uint32_t order)
 {
-    uint64_t lines[512];
+    uint64_t lines[512], value = 0;
     for (size_t i = 0; i < COUNT_OF(lines); i++)
         lines[i] = pulse_line;
+    same("the refusal of a group value", kifsang_group_value(kind, 10, edition, order, lines, 512, &value), 0);
+    return value;
+}
+
+static void try_kinds(void)
+{
     for (size_t i = 0; i < COUNT_OF(kinds); i++) {
-        uint64_t value = 0;
-        same("the refusal of a group value", kifsang_group_value(kinds[i].kind, 10, 1, lines, 512, &value), 0);
-        same(kinds[i].name, value, kinds[i].value);
+        uint32_t kind = kinds[i].kind;
+        same(kinds[i].name, value_of(kind, KIFSANG_EDITION_2, 1), kinds[i].value);
+        same(kinds[i].name, value_of(kind, KIFSANG_EDITION_2, 2), kinds[i].value);
+        same(kinds[i].name, value_of(kind, KIFSANG_EDITION_A1, 1), kinds[i].first_under_a1);
+        same(kinds[i].name, value_of(kind, KIFSANG_EDITION_A1, 2), kinds[i].value);
     }
 }
 
-/* The rows of worked number 8, 8944 and then 0, for order 1. */
-static void try_places(void)
+/* The rows of worked number 8, 8944 and then 0, for order 1, under an edition. */
+static void try_places(uint32_t edition)
 {
-    uint64_t record[122];
+    uint64_t record[123];
     uint32_t values[40] = {8944};
-    same("the refusal of a fresh record", kifsang_fresh_record(10, record, 122), 0);
-    same("the refusal of the first row", kifsang_add_row(record, 122, 10, values, 40), 0);
+    same("the refusal of a fresh record", kifsang_fresh_record(10, edition, record, 123), 0);
+    same("the refusal of the first row", kifsang_add_row(record, 123, 10, edition, values, 40), 0);
     values[0] = 0;
-    same("the refusal of the second row", kifsang_add_row(record, 122, 10, values, 40), 0);
+    same("the refusal of the second row", kifsang_add_row(record, 123, 10, edition, values, 40), 0);
     same("the system of a record", record[KIFSANG_SYSTEM_PLACE], 10);
+    same("the edition of a record", record[KIFSANG_EDITION_PLACE], edition);
     same("the windows of a record", record[KIFSANG_WINDOWS_PLACE], 2);
     same("the smoothed value of a record", record[KIFSANG_SMOOTHED_PLACE], 7828);
     same("the sum of a record", record[KIFSANG_SUM_PLACE], 8944 + 7828);
@@ -122,13 +138,13 @@ static void try_places(void)
 /* The verdict on order 3 with 1,000,000 units per ampere, of a record whose sum and peak are the value. */
 static uint32_t verdict_of(uint8_t class_letter, uint64_t windows, uint64_t value)
 {
-    uint64_t record[122];
+    uint64_t record[123];
     uint32_t verdict = 0;
-    same("the refusal of a fresh record", kifsang_fresh_record(10, record, 122), 0);
+    same("the refusal of a fresh record", kifsang_fresh_record(10, KIFSANG_EDITION_2, record, 123), 0);
     record[KIFSANG_WINDOWS_PLACE] = windows;
     record[KIFSANG_SUM_PLACE + 2] = value;
     record[KIFSANG_PEAK_PLACE + 2] = value;
-    same("the refusal of a verdict", kifsang_verdict(record, 122, 3, class_letter, 1000000, &verdict), 0);
+    same("the refusal of a verdict", kifsang_verdict(record, 123, 3, class_letter, 1000000, &verdict), 0);
     return verdict;
 }
 
@@ -181,7 +197,8 @@ int main(int argument_count, char **arguments)
     for (size_t i = 0; i < COUNT_OF(names); i++)
         same(names[i].name, names[i].number, names[i].figure);
     try_kinds();
-    try_places();
+    try_places(KIFSANG_EDITION_2);
+    try_places(KIFSANG_EDITION_A1);
     try_bounds();
     try_limits();
     printf("%lu names of the header, all with their figures\n", (unsigned long)COUNT_OF(names));

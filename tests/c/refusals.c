@@ -17,7 +17,7 @@
 #define COUNT_OF(array) (sizeof(array) / sizeof((array)[0]))
 
 struct arguments {
-    uint32_t kind, system, order, units_per_ampere;
+    uint32_t kind, system, edition, order, units_per_ampere;
     uint8_t class_letter;
     uint64_t recording_length, start, windows, first, line_count, value_count, record_words, text_length;
     uint64_t group_count, subgroup_count, smoothed_count, buffer_length;
@@ -47,16 +47,26 @@ struct fault {
     FAULT(101, uint32_t, kind, UINT32_MAX)
 #define RECORD_WORDS_FAULTS \
     FAULT(102, uint64_t, record_words, 0), \
-    FAULT(102, uint64_t, record_words, 121), \
-    FAULT(102, uint64_t, record_words, 123)
+    FAULT(102, uint64_t, record_words, 122), \
+    FAULT(102, uint64_t, record_words, 124)
 #define VALUE_COUNT_FAULTS \
     FAULT(102, uint64_t, value_count, 0), \
     FAULT(102, uint64_t, value_count, 39), \
     FAULT(102, uint64_t, value_count, 41)
-#define SYSTEM_FAULTS \
+#define SETUP_FAULTS \
     FAULT(1, uint32_t, system, 0), \
     FAULT(1, uint32_t, system, 11), \
-    FAULT(1, uint32_t, system, 13)
+    FAULT(1, uint32_t, system, 13), \
+    FAULT(19, uint32_t, edition, 2), \
+    FAULT(19, uint32_t, edition, 65537), \
+    FAULT(19, uint32_t, edition, UINT32_MAX)
+#define RECORD_SETUP_FAULTS \
+    FAULT(7, uint64_t, record[0], 11), \
+    FAULT(7, uint64_t, record[0], 4294967306), \
+    FAULT(7, uint64_t, record[1], 2), \
+    FAULT(7, uint64_t, record[1], 4294967295), \
+    FAULT(7, uint64_t, record[1], 4294967296), \
+    FAULT(7, uint64_t, record[1], 4294967297)
 #define SHORT_WINDOW_FAULTS \
     FAULT(2, uint64_t, recording_length, 0), \
     FAULT(2, uint64_t, recording_length, 2047), \
@@ -94,7 +104,7 @@ struct call {
     size_t fault_count;
 };
 
-static const uint64_t fresh[122] = {10};
+static const uint64_t fresh[123] = {10, 1};
 
 static uint32_t spectrum(struct arguments *a)
 {
@@ -125,12 +135,12 @@ static const struct fault lines_from_faults[] = {
 
 static uint32_t group_value(struct arguments *a)
 {
-    return kifsang_group_value(a->kind, a->system, a->order, a->lines, a->line_count, &a->value);
+    return kifsang_group_value(a->kind, a->system, a->edition, a->order, a->lines, a->line_count, &a->value);
 }
 
 static const struct fault group_value_faults[] = {
     KIND_FAULTS,
-    SYSTEM_FAULTS,
+    SETUP_FAULTS,
     FAULT(6, uint32_t, order, 0),
     FAULT(6, uint32_t, order, 41),
     LINES_FAULTS,
@@ -138,13 +148,13 @@ static const struct fault group_value_faults[] = {
 
 static uint32_t row(struct arguments *a)
 {
-    return kifsang_row(a->kind, a->system, a->lines, a->line_count, a->values, a->value_count);
+    return kifsang_row(a->kind, a->system, a->edition, a->lines, a->line_count, a->values, a->value_count);
 }
 
 static const struct fault row_faults[] = {
     KIND_FAULTS,
     VALUE_COUNT_FAULTS,
-    SYSTEM_FAULTS,
+    SETUP_FAULTS,
     LINES_FAULTS,
 };
 
@@ -160,44 +170,45 @@ static const struct fault distortion_faults[] = {
 
 static uint32_t fresh_record(struct arguments *a)
 {
-    return kifsang_fresh_record(a->system, a->record, a->record_words);
+    return kifsang_fresh_record(a->system, a->edition, a->record, a->record_words);
 }
 
 static const struct fault fresh_record_faults[] = {
     RECORD_WORDS_FAULTS,
-    SYSTEM_FAULTS,
+    SETUP_FAULTS,
 };
 
 static uint32_t add_row(struct arguments *a)
 {
-    return kifsang_add_row(a->record, a->record_words, a->system, a->values, a->value_count);
+    return kifsang_add_row(a->record, a->record_words, a->system, a->edition, a->values, a->value_count);
 }
 
 static const struct fault add_row_faults[] = {
     RECORD_WORDS_FAULTS,
     VALUE_COUNT_FAULTS,
-    FAULT(7, uint64_t, record[0], 11),
-    FAULT(7, uint64_t, record[1], 0),
-    FAULT(7, uint64_t, record[1], 45001),
-    FAULT(7, uint64_t, record[41], 4294967296),
-    FAULT(7, uint64_t, record[42], UINT64_MAX),
-    FAULT(7, uint64_t, record[121], 4294967296),
-    SYSTEM_FAULTS,
+    RECORD_SETUP_FAULTS,
+    FAULT(7, uint64_t, record[2], 0),
+    FAULT(7, uint64_t, record[2], 45001),
+    FAULT(7, uint64_t, record[42], 4294967296),
+    FAULT(7, uint64_t, record[43], UINT64_MAX),
+    FAULT(7, uint64_t, record[122], 4294967296),
+    SETUP_FAULTS,
     FAULT(8, uint32_t, system, 12),
-    FAULT(9, uint64_t, record[1], 45000),
+    FAULT(8, uint32_t, edition, 0),
+    FAULT(9, uint64_t, record[2], 45000),
 };
 
 static uint32_t observe(struct arguments *a)
 {
-    return kifsang_observe(a->recording, a->recording_length, a->start, a->windows, a->system, a->kind, a->record,
-                           a->record_words);
+    return kifsang_observe(a->recording, a->recording_length, a->start, a->windows, a->system, a->edition, a->kind,
+                           a->record, a->record_words);
 }
 
 /* Without a fault the recording ends with the third window. */
 static const struct fault observe_faults[] = {
     KIND_FAULTS,
     RECORD_WORDS_FAULTS,
-    SYSTEM_FAULTS,
+    SETUP_FAULTS,
     FAULT(2, uint64_t, recording_length, 0),
     FAULT(2, uint64_t, recording_length, 2047),
     FAULT(2, uint64_t, start, 4097),
@@ -230,11 +241,11 @@ static uint32_t verdict(struct arguments *a)
 
 static const struct fault verdict_faults[] = {
     RECORD_WORDS_FAULTS,
-    FAULT(7, uint64_t, record[0], 11),
-    FAULT(7, uint64_t, record[1], 45001),
-    FAULT(7, uint64_t, record[2], 4294967296),
-    FAULT(7, uint64_t, record[42], UINT64_MAX),
-    FAULT(7, uint64_t, record[121], 4294967296),
+    RECORD_SETUP_FAULTS,
+    FAULT(7, uint64_t, record[2], 45001),
+    FAULT(7, uint64_t, record[3], 4294967296),
+    FAULT(7, uint64_t, record[43], UINT64_MAX),
+    FAULT(7, uint64_t, record[122], 4294967296),
     {10, "a fresh record", offsetof(struct arguments, record), sizeof fresh, fresh},
     LIMIT_FAULTS,
     FAULT(11, uint32_t, units_per_ampere, 0),
@@ -327,6 +338,7 @@ static void fill(struct arguments *a, const struct call *call)
     memset(a, FILL, sizeof *a);
     a->kind = 2;
     a->system = 10;
+    a->edition = 1;
     a->order = 3;
     a->class_letter = 65;
     a->units_per_ampere = 268435456;
@@ -336,7 +348,7 @@ static void fill(struct arguments *a, const struct call *call)
     a->first = 512;
     a->line_count = 512;
     a->value_count = 40;
-    a->record_words = 122;
+    a->record_words = 123;
     a->text_length = 8;
     a->group_count = a->subgroup_count = a->smoothed_count = 40;
     a->buffer_length = call->run == write_column ? 8 : 1640;
@@ -349,7 +361,8 @@ static void fill(struct arguments *a, const struct call *call)
     for (size_t i = 0; i < COUNT_OF(a->record); i++)
         a->record[i] = 4294967295 - i;
     a->record[0] = 10;
-    a->record[1] = 44999;
+    a->record[1] = 1;
+    a->record[2] = 44999;
 }
 
 static void put(struct arguments *a, const struct fault *fault)
@@ -385,12 +398,12 @@ static void try_call(const struct call *call, uint32_t verdict_before)
  * ampere. */
 static uint32_t verdict_of(uint8_t class_letter, uint32_t value)
 {
-    uint64_t record[122];
+    uint64_t record[123];
     uint32_t values[40] = {0}, verdict = 0;
     values[2] = value;
     same("verdict", "a record", "of one window",
-         kifsang_fresh_record(10, record, 122) + kifsang_add_row(record, 122, 10, values, 40) +
-             kifsang_verdict(record, 122, 3, class_letter, 1000000, &verdict),
+         kifsang_fresh_record(10, 0, record, 123) + kifsang_add_row(record, 123, 10, 0, values, 40) +
+             kifsang_verdict(record, 123, 3, class_letter, 1000000, &verdict),
          0);
     return verdict;
 }

@@ -1,12 +1,15 @@
 #!/usr/bin/env python3
 """Recordings with faults: examples/c/report.c must write the line that harmlist writes, with the
-number that stands here, and end with status 1; examples/picture.py must refuse that line. Both must
-fail by their status where an input cannot be read or an output not written.
+number that stands here, and end with status 1, unless its edition is refused directly after the system;
+examples/picture.py must refuse that line. Reports of one recording in both classes, under both editions.
+Both programs must fail by their status where an input cannot be read or an output not written.
 
     report.py REPORT HARMLIST PICTURE
 """
 
+import itertools
 import os
+import re
 import subprocess
 import sys
 import tempfile
@@ -71,7 +74,12 @@ LIMITS = {
         ["40", "69", "69.0000", "103.5000"],
     ],
 }
+# The values of the pulse in WINDOW at the orders 1 and 2, of each edition.
+PULSE = {"0": [8944, 8944], "1": [2828, 8944]}
 LETTERS = ["a", "b", "C", "D", "", "AB", " A", "\xc1"]
+EDITIONS = {"0": "2", "1": "2.0 A1"}  # the number of each, and its name in a report
+OTHER_EDITIONS = ["2", "3", "10", "65536", "4294967295", "4294967296", "4294967297", "99999999999999999999"]
+OTHER_EDITIONS += ["-1", "+1", "1.0", " 1", "1 ", "x", "", "A1", "2.0 A1"]
 SCALES = ["0", "268435457", "4294967296", "4311351296", "99999999999999999999", "-1", "1.5", " 1", "x", ""]
 
 
@@ -92,9 +100,16 @@ def main():
         line = f"refused{number:3d}\n"
         what = f"{number} in {text[:40]!r}"
         same(f"harmlist, {what}", run([harmlist], text)[0], line.encode())
-        for letter, scale in [(CLASS, SCALE), ("b", "0")]:
-            same(f"report, {what}", run([report, letter, scale], text), (line.encode(), b"", 1))
+        for arguments in [(CLASS, SCALE), ("b", "0"), (CLASS, SCALE, "0"), (CLASS, SCALE, "1"), ("b", "0", "1")]:
+            same(f"report, {what}", run([report, *arguments], text), (line.encode(), b"", 1))
+        # An edition that is refused comes directly after the system.
+        expected = "refused 19\n" if text[:9] in (column(10), column(12)) else line
+        for arguments in [(CLASS, SCALE, "2"), ("b", "0", "x")]:
+            same(f"report, {what}, {arguments}", run([report, *arguments], text), (expected.encode(), b"", 1))
     whole = recording(10, *WINDOW)
+    for edition in OTHER_EDITIONS:
+        for arguments in [(CLASS, SCALE), ("b", SCALE), (CLASS, "0"), ("b", "0")]:
+            same(f"report, edition {edition!r}", run([report, *arguments, edition], whole), (b"refused 19\n", b"", 1))
     for letter in LETTERS:
         for scale in [SCALE, "0"]:
             same(f"report, class {letter!r}", run([report, letter, scale], whole), (b"refused 15\n", b"", 1))
@@ -102,7 +117,7 @@ def main():
         same(f"report, {scale!r} units per ampere", run([report, CLASS, scale], whole), (b"refused 11\n", b"", 1))
     for scale in ["1", "268435456"]:
         same(f"report, {scale!r} units per ampere", run([report, CLASS, scale], whole)[1:], (b"", 0))
-    for arguments in [[], [CLASS], [CLASS, SCALE, SCALE]]:
+    for arguments in [[], [CLASS], [CLASS, SCALE, "0", "0"]]:
         same(f"report with {arguments!r}", run([report, *arguments], whole)[::2], (b"", 2))
     with open("/dev/full", "wb") as full:
         done = subprocess.run([report, CLASS, SCALE], input=whole.encode(), stdout=full, stderr=subprocess.PIPE, check=False)
@@ -112,21 +127,29 @@ def main():
     same("report of what cannot be read", (done.stdout, done.returncode), (b"", 2))
 
     listing = run([harmlist], whole)[0].decode()
-    for letter, limits in LIMITS.items():
-        good = run([report, letter, SCALE], whole)[0].decode()
+    for letter, edition in itertools.product(LIMITS, EDITIONS):
+        good = run([report, letter, SCALE, edition], whole)[0].decode()
         rows = [line.split() for line in good.splitlines()]
         same("report, the class", rows[0], ["class", letter])
-        same("report, the margin", rows[4], ["margin,", "units", "12"])
-        for row in limits:
+        same("report, the edition", rows[2], ["edition", *EDITIONS[edition].split()])
+        same("report, the margin", rows[5], ["margin,", "units", "12"])
+        for row in LIMITS[letter]:
             found = [found[3:6] for found in rows if found[:1] == row[:1]]
             same(f"report, the limits of order {row[0]} in class {letter}", found, [row[1:]])
+        for order, value in enumerate(PULSE[edition], 1):
+            found = [found[1:3] for found in rows if found[:1] == [str(order)]]
+            same(f"report, the values of order {order} under edition {edition}", found, [[f"{value}.00", str(value)]])
         drawn = run([picture], good)
-        same(f"picture of a report, class {letter}", drawn[1:], (b"", 0))
+        same(f"picture of a report, class {letter}, edition {edition}", drawn[1:], (b"", 0))
         same("picture, its class", drawn[0].count(f"against class {letter};".encode()), 1)
+        same("picture, its edition", drawn[0].count(b"2.0 A1"), int(edition))
+        if edition == "0":
+            same("report without an edition", run([report, letter, SCALE], whole)[0].decode(), good)
     good = run([report, CLASS, SCALE], whole)[0].decode()
     others = ["", "\n", "refused 13\n", listing, good[:-1], good + "\n", good + good, good.replace("within", "Within", 1)]
     others += ["\xff", good.replace("limit", "limit\xff", 1), good.replace(".", "9" * 400 + ".", 1), good.replace(SCALE, "9" * 400, 1)]
     others += [good.replace("class ", "", 1), good.replace(" A\n", " C\n", 1), good.replace(" A\n", " AB\n", 1)]
+    others += [re.sub("edition .*\n", wrong, good) for wrong in ("", "edition 3\n", "edition 2.0 A2\n", "edition\n", "Edition 2\n")]
     others += [good.replace("margin, units", "margin", 1), good.replace("limit", "Limit", 1), good.replace("\n    7 ", "\n    8 ", 1)]
     others += [good.replace(" 460/3 ", wrong, 1) for wrong in (" 460/0 ", " 0/3 ", " 460/ ", " 460.3 ", " 460/3/1 ")]
     for text in others:

@@ -98,14 +98,14 @@ static void on_lines_from(void)
 static void on_row(void)
 {
     uint32_t row[KIFSANG_ORDER_COUNT];
-    uint32_t kind = (uint32_t)number[0];
+    uint32_t kind = (uint32_t)number[0], system = (uint32_t)number[1], edition = (uint32_t)number[2];
     for (size_t i = 0; i < KIFSANG_ORDER_COUNT; i++)
         row[i] = BEFORE;
-    same("row", kifsang_row(kind, (uint32_t)number[1], lines, line_count, row, KIFSANG_ORDER_COUNT), 0);
+    same("row", kifsang_row(kind, system, edition, lines, line_count, row, KIFSANG_ORDER_COUNT), 0);
     for (uint32_t order = 1; order <= KIFSANG_ORDER_COUNT; order++) {
         uint64_t value = BEFORE;
-        same("group", kifsang_group_value(kind, (uint32_t)number[1], order, lines, line_count, &value), 0);
-        same("group value", value, number[1 + order]);
+        same("group", kifsang_group_value(kind, system, edition, order, lines, line_count, &value), 0);
+        same("group value", value, number[2 + order]);
         same("value in a row", row[order - 1], value);
     }
 }
@@ -113,11 +113,12 @@ static void on_row(void)
 static void on_group_value(void)
 {
     uint64_t value = BEFORE;
-    if (number[1] > UINT32_MAX || number[2] > UINT32_MAX)
+    if (number[1] > UINT32_MAX || number[2] > UINT32_MAX || number[3] > UINT32_MAX)
         return;
-    uint32_t refusal = kifsang_group_value((uint32_t)number[0], (uint32_t)number[1], (uint32_t)number[2], lines, line_count, &value);
-    same("group", refusal, number[3]);
-    same_answer("group value", value, refusal, number[4]);
+    uint32_t refusal = kifsang_group_value((uint32_t)number[0], (uint32_t)number[1], (uint32_t)number[2],
+                                           (uint32_t)number[3], lines, line_count, &value);
+    same("group", refusal, number[4]);
+    same_answer("group value", value, refusal, number[5]);
 }
 
 static void on_distortion(void)
@@ -132,12 +133,13 @@ static void on_distortion(void)
 
 static void on_fresh_record(void)
 {
-    if (number[0] > UINT32_MAX)
+    if (number[0] > UINT32_MAX || number[1] > UINT32_MAX)
         return;
     for (size_t i = 0; i < KIFSANG_RECORD_WORDS; i++)
         record[i] = BEFORE;
-    uint32_t refusal = kifsang_fresh_record((uint32_t)number[0], record, KIFSANG_RECORD_WORDS);
-    same("fresh record", refusal, number[1]);
+    uint32_t refusal =
+        kifsang_fresh_record((uint32_t)number[0], (uint32_t)number[1], record, KIFSANG_RECORD_WORDS);
+    same("fresh record", refusal, number[2]);
     record_is_ours = refusal == KIFSANG_NO_REFUSAL;
     for (size_t i = 0; !record_is_ours && i < KIFSANG_RECORD_WORDS; i++)
         same("the record of a refused fresh record", record[i], BEFORE);
@@ -146,27 +148,30 @@ static void on_fresh_record(void)
 static void on_add_row(void)
 {
     uint32_t row[KIFSANG_ORDER_COUNT];
-    if (number[1] > UINT32_MAX)
+    if (number[1] > UINT32_MAX || number[2] > UINT32_MAX)
         return;
-    take_row(row, number + 2);
-    same("add row", kifsang_add_row(record, KIFSANG_RECORD_WORDS, (uint32_t)number[1], row, KIFSANG_ORDER_COUNT), number[0]);
+    take_row(row, number + 3);
+    same("add row",
+         kifsang_add_row(record, KIFSANG_RECORD_WORDS, (uint32_t)number[1], (uint32_t)number[2], row,
+                         KIFSANG_ORDER_COUNT),
+         number[0]);
     record_is_ours = 1;
 }
 
 /* The record after windows back to back by the calls one by one, up to the first that is refused. */
-static uint32_t chain(uint64_t start, uint64_t windows, uint32_t system, uint32_t kind,
+static uint32_t chain(uint64_t start, uint64_t windows, uint32_t system, uint32_t edition, uint32_t kind,
                       uint64_t chained[KIFSANG_RECORD_WORDS])
 {
     uint64_t spectrum[KIFSANG_LINE_COUNT];
     uint32_t row[KIFSANG_ORDER_COUNT];
-    uint32_t refusal = kifsang_fresh_record(system, chained, KIFSANG_RECORD_WORDS);
+    uint32_t refusal = kifsang_fresh_record(system, edition, chained, KIFSANG_RECORD_WORDS);
     for (uint64_t i = 0; refusal == KIFSANG_NO_REFUSAL && i < windows; i++) {
         refusal = kifsang_spectrum(recording, recording_length, start + i * KIFSANG_WINDOW_LENGTH, spectrum,
                                    KIFSANG_LINE_COUNT);
         if (refusal == KIFSANG_NO_REFUSAL)
-            refusal = kifsang_row(kind, system, spectrum, KIFSANG_LINE_COUNT, row, KIFSANG_ORDER_COUNT);
+            refusal = kifsang_row(kind, system, edition, spectrum, KIFSANG_LINE_COUNT, row, KIFSANG_ORDER_COUNT);
         if (refusal == KIFSANG_NO_REFUSAL)
-            refusal = kifsang_add_row(chained, KIFSANG_RECORD_WORDS, system, row, KIFSANG_ORDER_COUNT);
+            refusal = kifsang_add_row(chained, KIFSANG_RECORD_WORDS, system, edition, row, KIFSANG_ORDER_COUNT);
     }
     return refusal;
 }
@@ -174,13 +179,13 @@ static uint32_t chain(uint64_t start, uint64_t windows, uint32_t system, uint32_
 static void on_observe(void)
 {
     uint64_t chained[KIFSANG_RECORD_WORDS];
-    uint32_t system = (uint32_t)number[2], kind = (uint32_t)number[3];
+    uint32_t system = (uint32_t)number[2], edition = (uint32_t)number[3], kind = (uint32_t)number[4];
     for (size_t i = 0; i < KIFSANG_RECORD_WORDS; i++)
         record[i] = BEFORE;
-    uint32_t refusal = kifsang_observe(recording, recording_length, number[0], number[1], system, kind, record,
-                                       KIFSANG_RECORD_WORDS);
-    same("observe", refusal, number[4]);
-    same("the calls one by one", chain(number[0], number[1], system, kind, chained), refusal);
+    uint32_t refusal = kifsang_observe(recording, recording_length, number[0], number[1], system, edition, kind,
+                                       record, KIFSANG_RECORD_WORDS);
+    same("observe", refusal, number[5]);
+    same("the calls one by one", chain(number[0], number[1], system, edition, kind, chained), refusal);
     record_is_ours = refusal == KIFSANG_NO_REFUSAL;
     if (record_is_ours)
         same_words("the record of the calls one by one", chained, record, KIFSANG_RECORD_WORDS);

@@ -1,11 +1,13 @@
 //! From samples to verdicts: the current of `examples/c/verdicts.c`, judged against class A and class B.
 
-use kifsang::{Kind, Refusal, Verdict};
-use kifsang::{CLASS_A, CLASS_B, ORDER_COUNT, RECORD_WORDS, UNITS_PER_COUNT, WINDOW_LENGTH};
+use kifsang::{Kind, Refusal, Verdict, CLASS_A, CLASS_B, EDITION_2};
+use kifsang::{ORDER_COUNT, RECORD_WORDS, UNITS_PER_COUNT, WINDOW_LENGTH};
 use std::f64::consts::TAU;
 
 /// Cycles in a window: 50 Hz.
 const SYSTEM: u32 = 10;
+/// Of IEC 61000-4-7; A1 changes order 1 alone, which has no limit.
+const EDITION: u32 = EDITION_2;
 const WINDOWS: usize = 15;
 /// Of the converter with its sensor.
 const COUNTS_PER_AMPERE: u32 = 1600;
@@ -36,6 +38,7 @@ fn main() -> Result<(), Refusal> {
         0,
         WINDOWS,
         SYSTEM,
+        EDITION,
         Kind::HarmonicGroup,
         &mut record,
     )?;

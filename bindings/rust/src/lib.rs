@@ -10,14 +10,15 @@
 //! From samples to verdicts:
 //!
 //! ```
-//! use kifsang::{Kind, Verdict, CLASS_A, CLASS_B, RECORD_WORDS, UNITS_PER_COUNT, WINDOW_LENGTH};
+//! use kifsang::{Kind, Verdict, CLASS_A, CLASS_B, EDITION_2};
+//! use kifsang::{RECORD_WORDS, UNITS_PER_COUNT, WINDOW_LENGTH};
 //!
 //! // Fifteen windows of 0.2 s at 50 Hz: a square wave of 5 A, 1,600 counts per ampere.
 //! let recording: Vec<i32> = (0..15 * WINDOW_LENGTH)
 //!     .map(|place| if place * 20 / WINDOW_LENGTH % 2 == 0 { 8000 } else { -8000 })
 //!     .collect();
 //! let mut record = [0; RECORD_WORDS];
-//! kifsang::observe(&recording, 0, 15, 10, Kind::HarmonicGroup, &mut record)?;
+//! kifsang::observe(&recording, 0, 15, 10, EDITION_2, Kind::HarmonicGroup, &mut record)?;
 //! let units_per_ampere = 1600 * UNITS_PER_COUNT;
 //! assert_eq!(kifsang::verdict(&record, 3, CLASS_A, units_per_ampere)?, Verdict::Within);
 //! assert_eq!(kifsang::verdict(&record, 9, CLASS_A, units_per_ampere)?, Verdict::Over);
@@ -63,12 +64,21 @@ pub const CLASS_A: u8 = b'A';
 /// The class letter of class B: portable tools.
 pub const CLASS_B: u8 = b'B';
 
+/// Edition 2 of IEC 61000-4-7. An edition is a number, as a record holds it, and the core refuses any
+/// other than these two with 19.
+pub const EDITION_2: u32 = 0;
+/// Edition 2 with its amendment A1: the harmonic group of order 1 is its component alone, and all else is
+/// as in edition 2.
+pub const EDITION_A1: u32 = 1;
+
 /// The place of the system among a record's words.
 pub const SYSTEM_PLACE: usize = 0;
+/// The place of the edition.
+pub const EDITION_PLACE: usize = 1;
 /// The place of the count of windows.
-pub const WINDOWS_PLACE: usize = 1;
+pub const WINDOWS_PLACE: usize = 2;
 /// The first of the 40 places of the smoothed values.
-pub const SMOOTHED_PLACE: usize = 2;
+pub const SMOOTHED_PLACE: usize = 3;
 /// The first of the 40 places of their sums.
 pub const SUM_PLACE: usize = SMOOTHED_PLACE + ORDER_COUNT;
 /// The first of the 40 places of their peaks.
@@ -108,7 +118,7 @@ refusals! {
     5 LINE_TOO_LARGE "a line above 2^59"
     6 ORDER_OUT_OF_RANGE "an order outside the orders of the call"
     7 UNSOUND_RECORD "words that are not a sound record"
-    8 OTHER_SYSTEM "a row whose system is not the record's"
+    8 OTHER_SETUP "a row whose system or edition is not the record's"
     9 RECORD_FULL "the record holds 45,000 windows"
     10 NO_WINDOW "the record holds no window yet"
     11 SCALE_OUT_OF_RANGE "units per ampere outside 1..2^28"
@@ -116,8 +126,9 @@ refusals! {
     13 NOT_A_COLUMN "no number column, or a number wider than its column"
     14 WRONG_BUFFER_LENGTH "a text buffer of the wrong length"
     15 UNKNOWN_CLASS "a class letter other than A or B"
+    19 UNKNOWN_EDITION "the edition is neither 0 nor 1"
     101 UNKNOWN_KIND "a number that stands for no kind"
-    102 WRONG_WORD_COUNT "not 40 words for a row, or not 122 for a record"
+    102 WRONG_WORD_COUNT "not 40 words for a row, or not 123 for a record"
 }
 
 impl fmt::Display for Refusal {
@@ -184,6 +195,7 @@ mod raw {
         pub fn kifsang_group_value(
             kind: u32,
             system: u32,
+            edition: u32,
             order: u32,
             lines: *const u64,
             line_count: u64,
@@ -192,6 +204,7 @@ mod raw {
         pub fn kifsang_row(
             kind: u32,
             system: u32,
+            edition: u32,
             lines: *const u64,
             line_count: u64,
             values: *mut u32,
@@ -202,11 +215,17 @@ mod raw {
             value_count: u64,
             parts_per_thousand: *mut u64,
         ) -> u32;
-        pub fn kifsang_fresh_record(system: u32, record: *mut u64, record_words: u64) -> u32;
+        pub fn kifsang_fresh_record(
+            system: u32,
+            edition: u32,
+            record: *mut u64,
+            record_words: u64,
+        ) -> u32;
         pub fn kifsang_add_row(
             record: *mut u64,
             record_words: u64,
             system: u32,
+            edition: u32,
             values: *const u32,
             value_count: u64,
         ) -> u32;
@@ -216,6 +235,7 @@ mod raw {
             start: u64,
             windows: u64,
             system: u32,
+            edition: u32,
             kind: u32,
             record: *mut u64,
             record_words: u64,
@@ -322,19 +342,44 @@ pub fn lines_from(
     answered(refusal, ())
 }
 
-/// Works out one group value, below 2^32, from 512 lines of at most 2^59 each; the order is 1..40.
+/// Works out one group value, below 2^32, from 512 lines of at most 2^59 each; the edition is
+/// [`EDITION_2`] or [`EDITION_A1`], the order is 1..40.
 ///
-/// Refusals: 1 system not 10 or 12; 6 order outside 1..40; 4 not 512 lines; 5 a line above 2^59.
+/// Refusals: 1 system not 10 or 12; 19 edition not 0 or 1; 6 order outside 1..40; 4 not 512 lines; 5 a
+/// line above 2^59.
 ///
 /// Proved error: for the lines of a window in range the value is at most 7 units from the exact
-/// group.
-pub fn group_value(kind: Kind, system: u32, order: u32, lines: &[u64]) -> Result<u64, Refusal> {
+/// group of the edition.
+///
+/// ```
+/// use kifsang::{group_value, Kind, EDITION_2, EDITION_A1};
+///
+/// // The lines of a single sample of 1000. Amendment A1 groups from the second order up.
+/// let mut recording = [0; kifsang::WINDOW_LENGTH];
+/// recording[0] = 1000;
+/// let mut lines = [0; kifsang::LINE_COUNT];
+/// kifsang::spectrum(&recording, 0, &mut lines)?;
+/// assert_eq!(group_value(Kind::HarmonicGroup, 10, EDITION_2, 1, &lines)?, 8944);
+/// assert_eq!(group_value(Kind::HarmonicGroup, 10, EDITION_A1, 1, &lines)?, 2828);
+/// for edition in [EDITION_2, EDITION_A1] {
+///     assert_eq!(group_value(Kind::HarmonicGroup, 10, edition, 2, &lines)?, 8944);
+/// }
+/// # Ok::<(), kifsang::Refusal>(())
+/// ```
+pub fn group_value(
+    kind: Kind,
+    system: u32,
+    edition: u32,
+    order: u32,
+    lines: &[u64],
+) -> Result<u64, Refusal> {
     let mut value = 0;
     // SAFETY: each pointer comes with the length of its slice, or points to one number.
     let refusal = unsafe {
         raw::kifsang_group_value(
             kind as u32,
             system,
+            edition,
             order,
             lines.as_ptr(),
             length(lines),
@@ -346,15 +391,23 @@ pub fn group_value(kind: Kind, system: u32, order: u32, lines: &[u64]) -> Result
 
 /// Works out the 40 group values of a kind, a row, into a buffer of 40.
 ///
-/// Refusals: 102 not 40 values; 1 system not 10 or 12; 4 not 512 lines; 5 a line above 2^59.
+/// Refusals: 102 not 40 values; 1 system not 10 or 12; 19 edition not 0 or 1; 4 not 512 lines; 5 a line
+/// above 2^59.
 ///
 /// Proved error: that of [`group_value`], for each order.
-pub fn row(kind: Kind, system: u32, lines: &[u64], values: &mut [u32]) -> Result<(), Refusal> {
+pub fn row(
+    kind: Kind,
+    system: u32,
+    edition: u32,
+    lines: &[u64],
+    values: &mut [u32],
+) -> Result<(), Refusal> {
     // SAFETY: each pointer comes with the length of its slice.
     let refusal = unsafe {
         raw::kifsang_row(
             kind as u32,
             system,
+            edition,
             lines.as_ptr(),
             length(lines),
             values.as_mut_ptr(),
@@ -379,30 +432,39 @@ pub fn distortion(values: &[u32]) -> Result<u64, Refusal> {
     answered(refusal, parts_per_thousand)
 }
 
-/// Begins an observation: a record of a system with no window, into [`RECORD_WORDS`] words.
+/// Begins an observation: a record of a system and an edition with no window, into [`RECORD_WORDS`] words.
 ///
-/// Refusals: 102 not 122 words; 1 system not 10 or 12.
-pub fn fresh_record(system: u32, record: &mut [u64]) -> Result<(), Refusal> {
+/// Refusals: 102 not 123 words; 1 system not 10 or 12; 19 edition not 0 or 1.
+pub fn fresh_record(system: u32, edition: u32, record: &mut [u64]) -> Result<(), Refusal> {
     // SAFETY: the pointer comes with the length of its slice.
-    let refusal = unsafe { raw::kifsang_fresh_record(system, record.as_mut_ptr(), length(record)) };
+    let refusal =
+        unsafe { raw::kifsang_fresh_record(system, edition, record.as_mut_ptr(), length(record)) };
     answered(refusal, ())
 }
 
-/// Adds the row of one window, 40 values with their system, to a record; any words may be handed over
-/// as one.
+/// Adds the row of one window, 40 values with their system and edition, to a record; any words may be
+/// handed over as one.
 ///
-/// Refusals: 102 not 122 words or not 40 values; 7 the record is not sound; 1 system not 10 or 12; 8
-/// another system than the record's; 9 the record holds 45,000 windows.
+/// Refusals: 102 not 123 words or not 40 values; 7 the record is not sound; 1 system not 10 or 12; 19
+/// edition not 0 or 1; 8 another system or another edition than the record's; 9 the record holds 45,000
+/// windows.
 ///
 /// Proved error: after any list of calls from a fresh record, with rows of one kind worked from
-/// windows in range, each smoothed value is at most 12 units from the exact one.
-pub fn add_row(record: &mut [u64], system: u32, values: &[u32]) -> Result<(), Refusal> {
+/// windows in range, with their own system and edition, each smoothed value is at most 12 units from the
+/// exact one.
+pub fn add_row(
+    record: &mut [u64],
+    system: u32,
+    edition: u32,
+    values: &[u32],
+) -> Result<(), Refusal> {
     // SAFETY: each pointer comes with the length of its slice.
     let refusal = unsafe {
         raw::kifsang_add_row(
             record.as_mut_ptr(),
             length(record),
             system,
+            edition,
             values.as_ptr(),
             length(values),
         )
@@ -415,8 +477,9 @@ pub fn add_row(record: &mut [u64], system: u32, values: &[u32]) -> Result<(), Re
 /// [`spectrum`], [`row`] and [`add_row`] would leave; no window leaves a fresh record. Only the windows
 /// are looked at.
 ///
-/// Refusals: 102 not 122 words; 1 system not 10 or 12; then for each window in turn: 2 fewer than 2,048
-/// samples from its start; 3 a sample of it outside -131071..131071; 9 45,000 windows are before it.
+/// Refusals: 102 not 123 words; 1 system not 10 or 12; 19 edition not 0 or 1; then for each window in
+/// turn: 2 fewer than 2,048 samples from its start; 3 a sample of it outside -131071..131071; 9 45,000
+/// windows are before it.
 ///
 /// Proved error: each smoothed value is at most 12 units from the exact one, and a verdict that is
 /// asked of the record keeps what [`verdict`] says of it.
@@ -425,6 +488,7 @@ pub fn observe(
     start: usize,
     windows: usize,
     system: u32,
+    edition: u32,
     kind: Kind,
     record: &mut [u64],
 ) -> Result<(), Refusal> {
@@ -436,6 +500,7 @@ pub fn observe(
             start as u64,
             windows as u64,
             system,
+            edition,
             kind as u32,
             record.as_mut_ptr(),
             length(record),
@@ -481,7 +546,7 @@ pub fn limit(order: u32, class_letter: u8) -> Result<Limit, Refusal> {
 /// smoothed values against the limit, their peak against 150 % of it, with so many units in an ampere
 /// r.m.s., 1..2^28.
 ///
-/// Refusals: 102 not 122 words; 7 the record is not sound; 10 no window yet; 6 order outside 2..40; 15
+/// Refusals: 102 not 123 words; 7 the record is not sound; 10 no window yet; 6 order outside 2..40; 15
 /// class letter not A or B; 11 units per ampere outside 1..2^28.
 ///
 /// Proved error: after a list of calls as of [`add_row`], within and over hold for the exact average

@@ -1,17 +1,17 @@
--- A condition on the accepted calls of a list is carried to another one, and a row that a book of a list accepts has a known system.
+-- A condition on the accepted calls of a list is carried to another one, and a row that a book of a list accepts has a known setup.
 use mathlib.Core.Path.{_≡_, refl}
 use mathlib.Core.Bool.{Bool, true, false, cond}
 use mathlib.Core.List.{List, [], _∷_, map, map-id}
 use Prim.Native.Nat.{ℕ, _+_}
 use Rattle.algebra.specs.Weighted.{Everywhere}
 use Rattle.rows.specs.declared.Row.{Row}
-use Rattle.rows.specs.Systems.{isSystem}
+use Rattle.rows.specs.Setups.{isSetup}
 use Rattle.observation.specs.BookCalls.{EachAccepted}
 use Rattle.observation.proofs.SoundRecord.{accepts-row}
 use Rattle.accuracy.specs.CallList.{CallList, accepted}
 
-pub accepted-system : (list : CallList) (count : ℕ) (row : Row) → accepted list count row ≡ true → isSystem (row .system) ≡ true
-accepted-system list count row e = accepts-row _ count row e .system-known
+pub accepted-setup : (list : CallList) (count : ℕ) (row : Row) → accepted list count row ≡ true → isSetup (row .setup) ≡ true
+accepted-setup list count row e = accepts-row _ count row e .setup-known
 
 -- calls made one by one of others
 module _

@@ -7,6 +7,7 @@ use Prim.Native.Nat.{ℕ, _+_, _-_, _<_, _≤_}
 use lib.IntN.{ℤ}
 use Rattle.algebra.specs.Fraction.{whole, Side, lower, upper, RootBound}
 use Rattle.rows.specs.declared.Row.{Row}
+use Rattle.rows.specs.declared.Setup.{Setup}
 use Rattle.rows.specs.Orders.{orderCount}
 use Rattle.groups.specs.declared.Kind.{Kind}
 use Rattle.groups.specs.Exact.{exactGroup}
@@ -24,12 +25,12 @@ bound lower value = value - groupMargin
 bound upper value = value + groupMargin
 
 bound-holds :
-    (side : Side) (kind : Kind) (system order : ℕ) (window : List ℤ) (value : ℕ) →
-    ValueNear kind system order window value →
-    RootBound side (whole (bound side value)) (exactGroup kind system order window)
+    (side : Side) (kind : Kind) (setup : Setup) (order : ℕ) (window : List ℤ) (value : ℕ) →
+    ValueNear kind setup order window value →
+    RootBound side (whole (bound side value)) (exactGroup kind setup order window)
 unfolding bound
-bound-holds lower kind system order window value near = near .not-far-below
-bound-holds upper kind system order window value near = near .not-far-above
+bound-holds lower kind setup order window value near = near .not-far-below
+bound-holds upper kind setup order window value near = near .not-far-above
 
 module _ (side : Side) (order : ℕ) where
   -- a call of the book at a row

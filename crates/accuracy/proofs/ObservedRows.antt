@@ -8,7 +8,8 @@ use Rattle.algebra.proofs.Weighted.{everywhere-tabulate}
 use Rattle.refusals.specs.Numbers.{noRefusal}
 use Rattle.refusals.proofs.Answers.{unlessRefused-accepted}
 use Rattle.rows.specs.declared.Row.{Row}
-use Rattle.rows.specs.Systems.{isSystem}
+use Rattle.rows.specs.Setups.{isSetup}
+use Rattle.rows.specs.declared.Setup.{Setup}
 use Rattle.spectrum.specs.Line.{windowAt}
 use Rattle.spectrum.proofs.Accepted as Lines
 use Rattle.groups.specs.declared.Kind.{Kind}
@@ -22,39 +23,39 @@ use Rattle.accuracy.specs.Claim.{Worked, WorkedList, observedList}
 use Rattle.accuracy.proofs.AcceptedCalls.{each-accepted-everywhere}
 
 module _
-    (kind : Kind) (system : ℕ) (recording : List ℤ) (start windows : ℕ)
-    (accepted : observeRefusal system recording start windows ≡ noRefusal)
+    (kind : Kind) (setup : Setup) (recording : List ℤ) (start windows : ℕ)
+    (accepted : observeRefusal setup recording start windows ≡ noRefusal)
   where
-    pub observed-system : isSystem system ≡ true
-    observed-system =
-        let follows = calls-follow kind system recording start windows in
+    pub observed-setup : isSetup setup ≡ true
+    observed-setup =
+        let follows = calls-follow kind setup recording start windows in
         let held = follows .held (follows .refusal-is ∙ accepted) in
-        rw (held .system-is) at (sound-parts _ (held .sound) .system-known)
+        rw (held .setup-is) at (sound-parts _ (held .sound) .setup-known)
 
-    pub observed-record : observeAnswer kind system recording start windows .observation ≡ after (observedList kind system recording start windows)
+    pub observed-record : observeAnswer kind setup recording start windows .observation ≡ after (observedList kind setup recording start windows)
     unfolding observeAnswer after
-    observed-record = rw (fresh-of-known system observed-system) (unlessRefused-accepted _ _ _ accepted)
+    observed-record = rw (fresh-of-known setup observed-setup) (unlessRefused-accepted _ _ _ accepted)
 
-    pub observed-windows : observeAnswer kind system recording start windows .observation .windows ≡ windows
+    pub observed-windows : observeAnswer kind setup recording start windows .observation .windows ≡ windows
     unfolding observeAnswer
     observed-windows =
-        let follows = calls-follow kind system recording start windows in
+        let follows = calls-follow kind setup recording start windows in
         let held = follows .held (follows .refusal-is ∙ accepted) in
         ap (λ (o : Observation). o .windows) (unlessRefused-accepted _ _ _ accepted ∙ sym (held .record-is)) ∙ held .windows-are
 
     -- the row of each window
     observed-row : (i : ℕ) → i < windows →
         let window = windowAt recording (windowStart start i) in
-        Worked kind (windowRow kind system window) window
+        Worked kind (windowRow kind setup window) window
     unfolding windowRow
     observed-row i inside =
-        let call = Lines.accepted recording (windowStart start i) _ (calls-accepted system recording start kind windows i inside accepted .spectrum-accepted) in
+        let call = Lines.accepted recording (windowStart start i) _ (calls-accepted setup recording start kind windows i inside accepted .spectrum-accepted) in
         record {
           in-range = record { whole-window = call .whole-window; samples = call .in-range };
           values = refl;
         }
 
-    pub observed-worked : WorkedList kind (observedList kind system recording start windows)
+    pub observed-worked : WorkedList kind (observedList kind setup recording start windows)
     unfolding WorkedList windowRows
     observed-worked =
         each-accepted-everywhere (λ row. row) _ _ 0 _

@@ -5,7 +5,7 @@ use Prim.Native.Nat.{ℕ, _<_}
 use native.Mathlib.Omega.{arith}
 use borrow.Author.Tests.{ne-eqb}
 use Rattle.refusals.specs.Numbers.{noRefusal}
-use Rattle.rows.specs.Systems.{isSystem}
+use Rattle.rows.specs.Setups.{isSetup}
 use Rattle.groups.specs.declared.Kind.{Kind}
 use Rattle.observation.specs.Soundness.{isSound}
 use Rattle.observation.proofs.SoundRecord.{fresh-record-after-sound}
@@ -21,10 +21,10 @@ use Rattle.accuracy.specs.CallList.{CallList, after}
 use Rattle.accuracy.specs.Claim.{WorkedList}
 use Rattle.accuracy.proofs.WorkedRows.{worked-list-fits}
 
-module _ (kind : Kind) (list : CallList) (known : isSystem (list .system) ≡ true) (worked : WorkedList kind list) where
+module _ (kind : Kind) (list : CallList) (known : isSetup (list .setup) ≡ true) (worked : WorkedList kind list) where
   pub after-sound : isSound (after list) ≡ true
   unfolding after
-  after-sound = fresh-record-after-sound (list .system) (list .rows) known (worked-list-fits kind list worked)
+  after-sound = fresh-record-after-sound (list .setup) (list .rows) known (worked-list-fits kind list worked)
 
   module _
       (some : 0 < after list .windows) (class : Class) (order scale : ℕ)

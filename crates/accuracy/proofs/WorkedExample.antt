@@ -1,9 +1,9 @@
--- A worked list of calls, with a refused one between two accepted ones. It meets the hypotheses of demand 3 for every kind and any two windows in range.
--- Of the pulse's harmonic groups, document 01's 8944, the third order is then judged over, close and within at K = 3883, 3884 .. 3893 and 3894 in class A, and at K = 2588, 2589 .. 2595 and 2596 in class B.
+-- A worked list of calls, with refused ones between two accepted ones. It meets the hypotheses of demand 3 for every kind, both editions and any two windows in range.
+-- Of the pulse's harmonic groups, document 01's 8944, the third order is then, under both editions, judged over, close and within at K = 3883, 3884 .. 3893 and 3894 in class A, and at K = 2588, 2589 .. 2595 and 2596 in class B.
 use mathlib.Core.Path.{_≡_, refl, sym, ap, subst, _∙_}
 use mathlib.Core.Bool.{true}
-use mathlib.Core.List.{List, [], _∷_}
-use Prim.Native.Nat.{ℕ, _-_}
+use mathlib.Core.List.{List, [], _∷_, _++_}
+use Prim.Native.Nat.{ℕ, _+_, _-_}
 use native.Mathlib.Omega.{arith}
 use lib.IntN.{ℤ}
 use lib.ListN.{replicate}
@@ -18,9 +18,12 @@ use Rattle.spectrum.proofs.Pulse as Pulse
 use Rattle.spectrum.proofs.Pulse.{pulse, pulse-in-range}
 use Rattle.groups.specs.declared.Kind.{Kind}
 use Rattle.groups.specs.declared.Kind.the-variants.{HarmonicGroup}
-use Rattle.groups.specs.Spans.{spanOf, weightsIn, weightedSum}
-use Rattle.groups.specs.Group.{groupValue, groupRefusal, groupAnswer, groupValues}
+use Rattle.groups.specs.Spans.{spanOf, groupedAs, weightsIn, weightedSum}
+use Rattle.groups.specs.Group.{valueOver, groupValue, groupRefusal, groupAnswer, groupValues}
 use Rattle.rows.specs.Systems.{isSystem}
+use Rattle.rows.specs.Editions.{isEdition}
+use Rattle.rows.specs.Setups.{setupOf, isSetup, sameSetup}
+use Rattle.rows.proofs.Editions.{each-edition}
 use Rattle.rows.specs.Orders.{orderCount, isOrder}
 use Rattle.rows.specs.declared.Row.{Row}
 use Rattle.observation.specs.declared.Observation.{Observation}
@@ -45,40 +48,57 @@ use Rattle.observation.specs.Average.{averageOf, peakOf}
 use Rattle.accuracy.specs.Distance.{EveryOrder, InRange, valueOf}
 use Rattle.accuracy.specs.Rule.{reportedAverage}
 use Rattle.accuracy.specs.CallList.{CallList, after, reportedFrom}
-use Rattle.accuracy.specs.Claim.{Worked, WorkedList, reportedBook}
-use Rattle.accuracy.proofs.Demand3.{books-kept}
+use Rattle.accuracy.specs.Claim.{Worked, WorkedList, ListHolds, reportedBook}
+use Rattle.accuracy.proofs.Demand3.{demand3}
 use Rattle.accuracy.proofs.VerdictsGiven.{given-in}
 
-unfoldable pub workedRow : Kind → List ℤ → Row
-workedRow kind window = record { system = 10; values = groupValues kind 10 (linesOf window) }
+unfoldable pub workedRow : Kind → ℕ → List ℤ → Row
+workedRow kind edition window =
+    record { setup = setupOf 10 edition; values = groupValues kind (setupOf 10 edition) (linesOf window) }
 
-worked-row : (kind : Kind) (window : List ℤ) → InRange window → Worked kind (workedRow kind window) window
+worked-row : (kind : Kind) (edition : ℕ) (window : List ℤ) → InRange window → Worked kind (workedRow kind edition window) window
 unfolding workedRow
-worked-row kind window in-range = record { in-range = in-range; values = refl }
+worked-row kind edition window in-range = record { in-range = in-range; values = refl }
 
--- of another system, so that it is refused
-unfoldable pub otherSystemRow : Row
-otherSystemRow = record { system = 12; values = replicate orderCount 1 }
+-- of another system, of the other edition, and of none, so that they are refused: 8, 8 and 19
+unfoldable pub otherRows : ℕ → List Row
+otherRows edition =
+    record { setup = setupOf 12 edition; values = replicate orderCount 1 } ∷
+    record { setup = setupOf 10 (1 - edition); values = replicate orderCount 1 } ∷
+    record { setup = setupOf 10 2; values = replicate orderCount 1 } ∷
+    []
 
 module _ (kind : Kind) (window next : List ℤ) where
-  unfoldable pub exampleList : CallList
-  exampleList =
-      record { system = 10; rows = workedRow kind window ∷ otherSystemRow ∷ workedRow kind next ∷ [] }
+  unfoldable pub exampleList : ℕ → CallList
+  exampleList edition =
+      record { setup = setupOf 10 edition; rows = workedRow kind edition window ∷ otherRows edition ++ (workedRow kind edition next ∷ []) }
 
   module _ (in-range : InRange window) (next-in-range : InRange next) where
-    pub example-worked : WorkedList kind exampleList
-    unfolding WorkedList EachAccepted accepts rowChecks isSystem exampleList workedRow otherSystemRow
-    example-worked = ((window, worked-row kind window in-range), ((next, worked-row kind next next-in-range), tt))
+    pub example-worked : (edition : ℕ) → isEdition edition ≡ true → WorkedList kind (exampleList edition)
+    unfolding WorkedList EachAccepted accepts rowChecks sameSetup isSystem isEdition exampleList workedRow otherRows
+    example-worked =
+        each-edition (λ edition. WorkedList kind (exampleList edition))
+        ((window, worked-row kind 0 window in-range), ((next, worked-row kind 0 next next-in-range), tt))
+        ((window, worked-row kind 1 window in-range), ((next, worked-row kind 1 next next-in-range), tt))
+
+    -- demand 3 holds of it
+    example-holds : (edition : ℕ) → isEdition edition ≡ true → ListHolds kind (exampleList edition)
+    unfolding isSetup isSystem exampleList
+    example-holds edition known = demand3 .lists kind (exampleList edition) known (example-worked edition known)
 
     -- the record holds the reported books
-    example-books : EveryOrder (λ order. bookAt (after exampleList) (order - 1) ≡ reportedBook exampleList order)
-    unfolding isSystem exampleList
-    example-books = books-kept kind exampleList refl example-worked
+    example-books :
+        (edition : ℕ) → isEdition edition ≡ true →
+        EveryOrder (λ order. bookAt (after (exampleList edition)) (order - 1) ≡ reportedBook (exampleList edition) order)
+    example-books edition known = example-holds edition known .same-books
 
-    -- the refused row isn't counted
-    two-windows : after exampleList .windows ≡ 2
-    unfolding reportedFrom bookAfter bookCall ownValues accepts rowChecks isSystem exampleList workedRow otherSystemRow bookStep emptyBook bookAt
-    two-windows = ap (λ (book : Book reported). book .count) (example-books 1 (omega arith) (omega arith))
+    -- the refused rows aren't counted
+    two-windows : (edition : ℕ) → isEdition edition ≡ true → after (exampleList edition) .windows ≡ 2
+    unfolding reportedFrom bookAfter bookCall ownValues accepts rowChecks sameSetup isSystem isEdition exampleList workedRow otherRows bookStep emptyBook bookAt
+    two-windows =
+        each-edition (λ edition. after (exampleList edition) .windows ≡ 2)
+        (ap (λ (book : Book reported). book .count) (example-books 0 refl 1 (omega arith) (omega arith)))
+        (ap (λ (book : Book reported). book .count) (example-books 1 refl 1 (omega arith) (omega arith)))
 
 -- ---- the pulse
 
@@ -90,28 +110,47 @@ pulse-lines : linesOf pulse ≡ replicate lineCount 4000000
 unfolding linesOf
 pulse-lines = Pulse.pulse-lines 0 lineCount
 
-pulse-value : groupAnswer HarmonicGroup 10 3 (replicate lineCount 4000000) .value ≡ 8944
-unfolding groupAnswer groupRefusal isSystem isOrder groupValue rootOf largest spanOf weightsIn weightedSum sumOver tabulate anyOf
-pulse-value = refl
+-- the harmonic groups of the orders 1 and 3; under A1 the first is its component
+pulse-values :
+    (groupAnswer HarmonicGroup (setupOf 10 0) 3 (replicate lineCount 4000000) .value ≡ 8944)
+    × (groupAnswer HarmonicGroup (setupOf 10 1) 3 (replicate lineCount 4000000) .value ≡ 8944)
+    × (groupAnswer HarmonicGroup (setupOf 10 0) 1 (replicate lineCount 4000000) .value ≡ 8944)
+    × (groupAnswer HarmonicGroup (setupOf 10 1) 1 (replicate lineCount 4000000) .value ≡ 2828)
+unfolding groupAnswer groupRefusal isSystem isEdition isOrder groupValue valueOver rootOf largest spanOf groupedAs weightsIn weightedSum sumOver tabulate anyOf
+pulse-values = (refl, refl, refl, refl)
 
-pulse-group : valueOf HarmonicGroup 10 3 pulse ≡ 8944
-pulse-group = ap (λ (lines : List ℕ). groupAnswer HarmonicGroup 10 3 lines .value) pulse-lines ∙ pulse-value
+pulse-group :
+    (edition order value : ℕ) → groupAnswer HarmonicGroup (setupOf 10 edition) order (replicate lineCount 4000000) .value ≡ value →
+    valueOf HarmonicGroup (setupOf 10 edition) order pulse ≡ value
+pulse-group edition order value =
+    _∙_ (ap (λ (lines : List ℕ). groupAnswer HarmonicGroup (setupOf 10 edition) order lines .value) pulse-lines)
 
--- the record after the pulse twice
-abbrev pulsed : Observation
-pulsed = after (exampleList HarmonicGroup pulse pulse)
+-- the record after the pulse twice, under an edition
+abbrev pulsed : ℕ → Observation
+pulsed edition = after (exampleList HarmonicGroup pulse pulse edition)
 
--- the third order after the list
-abbrev pulsedBook : Book reported
-pulsedBook = record { count = 2; smoothed = 8944; sum = 17888; peak = 8944 }
+-- the book of an order whose value is the same twice
+abbrev twice : ℕ → Book reported
+twice value = record { count = 2; smoothed = value; sum = value + value; peak = value }
 
-pulse-book : bookAt pulsed 2 ≡ pulsedBook
-unfolding reportedFrom bookAfter bookCall ownValues accepts rowChecks isSystem exampleList workedRow otherSystemRow bookStep emptyBook smoothedNext smoothedValue nearest tabulate groupValues
-pulse-book = example-books HarmonicGroup pulse pulse pulse-window pulse-window 3 (omega arith) (omega arith) ∙ rw pulse-group
+pulse-books :
+    (bookAt (pulsed 0) 2 ≡ twice 8944) × (bookAt (pulsed 1) 2 ≡ twice 8944) × (bookAt (pulsed 0) 0 ≡ twice 8944) × (bookAt (pulsed 1) 0 ≡ twice 2828)
+unfolding reportedFrom bookAfter bookCall ownValues accepts rowChecks sameSetup isSystem isEdition exampleList workedRow otherRows bookStep emptyBook smoothedNext smoothedValue nearest tabulate groupValues
+pulse-books =
+    let books = example-books HarmonicGroup pulse pulse pulse-window pulse-window in (
+      books 0 refl 3 (omega arith) (omega arith) ∙ rw (pulse-group 0 3 8944 (pulse-values .0)),
+      books 1 refl 3 (omega arith) (omega arith) ∙ rw (pulse-group 1 3 8944 (pulse-values .1)),
+      books 0 refl 1 (omega arith) (omega arith) ∙ rw (pulse-group 0 1 8944 (pulse-values .2)),
+      books 1 refl 1 (omega arith) (omega arith) ∙ rw (pulse-group 1 1 2828 (pulse-values .3)),
+    )
+
+-- the third order's is the same under both editions
+pulse-book : (edition : ℕ) → isEdition edition ≡ true → bookAt (pulsed edition) 2 ≡ twice 8944
+pulse-book = each-edition (λ edition. bookAt (pulsed edition) 2 ≡ twice 8944) (pulse-books .0) (pulse-books .1)
 
 -- what is answered of the third order then
-abbrev pulseAnswer : Class → ℕ → VerdictAnswer
-pulseAnswer class scale = verdictAnswer pulsed (asked 3 (letterOf class) scale)
+abbrev pulseAnswer : Class → ℕ → ℕ → VerdictAnswer
+pulseAnswer class scale edition = verdictAnswer (pulsed edition) (asked 3 (letterOf class) scale)
 
 -- the verdict that a book of the third order gets
 judged : Book reported → Class → ℕ → Verdict
@@ -126,33 +165,35 @@ judged book class scale =
 pulse-answer :
     (class : Class) (scale : ℕ) (verdict : Verdict) →
     isScale scale ≡ true →
-    judged pulsedBook class scale ≡ verdict →
-    pulseAnswer class scale ≡ Given verdict
-unfolding isSystem exampleList verdictIn averageOf peakOf bookAt judged
-pulse-answer class scale verdict is-scale is =
-    let worked = example-worked HarmonicGroup pulse pulse pulse-window pulse-window in
-    let two = two-windows HarmonicGroup pulse pulse pulse-window pulse-window in
-    given-in HarmonicGroup (exampleList HarmonicGroup pulse pulse) refl worked (omega (arith, two)) class 3 scale refl is-scale
-    ∙ ap Given (subst (λ (book : Book reported). judged book class scale ≡ verdict) (sym pulse-book) is)
+    judged (twice 8944) class scale ≡ verdict →
+    (edition : ℕ) → isEdition edition ≡ true →
+    pulseAnswer class scale edition ≡ Given verdict
+unfolding isSetup isSystem exampleList verdictIn averageOf peakOf bookAt judged
+pulse-answer class scale verdict is-scale is edition known =
+    let worked = example-worked HarmonicGroup pulse pulse pulse-window pulse-window edition known in
+    let two = two-windows HarmonicGroup pulse pulse pulse-window pulse-window edition known in
+    given-in HarmonicGroup (exampleList HarmonicGroup pulse pulse edition) known worked (omega (arith, two)) class 3 scale refl is-scale
+    ∙ ap Given (subst (λ (book : Book reported). judged book class scale ≡ verdict) (sym (pulse-book edition known)) is)
 
 -- 2.3 × K is 8930.9, 8933.2, 8953.9 and 8956.2 in class A, and 3.45 × K is 8928.6, 8932.05, 8952.75 and 8956.2 in class B; 150 % of each is above the peak with the margin
 pulse-verdicts :
-    (pulseAnswer A 3883 ≡ Given (Over 3)) ×
-    (pulseAnswer A 3884 ≡ Given (Close 3)) ×
-    (pulseAnswer A 3893 ≡ Given (Close 3)) ×
-    (pulseAnswer A 3894 ≡ Given (Within 3)) ×
-    (pulseAnswer B 2588 ≡ Given (Over 3)) ×
-    (pulseAnswer B 2589 ≡ Given (Close 3)) ×
-    (pulseAnswer B 2595 ≡ Given (Close 3)) ×
-    (pulseAnswer B 2596 ≡ Given (Within 3))
+    (edition : ℕ) → isEdition edition ≡ true →
+    (pulseAnswer A 3883 edition ≡ Given (Over 3)) ×
+    (pulseAnswer A 3884 edition ≡ Given (Close 3)) ×
+    (pulseAnswer A 3893 edition ≡ Given (Close 3)) ×
+    (pulseAnswer A 3894 edition ≡ Given (Within 3)) ×
+    (pulseAnswer B 2588 edition ≡ Given (Over 3)) ×
+    (pulseAnswer B 2589 edition ≡ Given (Close 3)) ×
+    (pulseAnswer B 2595 edition ≡ Given (Close 3)) ×
+    (pulseAnswer B 2596 edition ≡ Given (Within 3))
 unfolding judged combined raised atMost isOver isWithin limitInUnits peakLimitInUnits limitOf classALimit figureIn ownFigures overOrder whole times divide
-pulse-verdicts = (
-  pulse-answer A 3883 (Over 3) refl refl,
-  pulse-answer A 3884 (Close 3) refl refl,
-  pulse-answer A 3893 (Close 3) refl refl,
-  pulse-answer A 3894 (Within 3) refl refl,
-  pulse-answer B 2588 (Over 3) refl refl,
-  pulse-answer B 2589 (Close 3) refl refl,
-  pulse-answer B 2595 (Close 3) refl refl,
-  pulse-answer B 2596 (Within 3) refl refl,
+pulse-verdicts edition known = (
+  pulse-answer A 3883 (Over 3) refl refl edition known,
+  pulse-answer A 3884 (Close 3) refl refl edition known,
+  pulse-answer A 3893 (Close 3) refl refl edition known,
+  pulse-answer A 3894 (Within 3) refl refl edition known,
+  pulse-answer B 2588 (Over 3) refl refl edition known,
+  pulse-answer B 2589 (Close 3) refl refl edition known,
+  pulse-answer B 2595 (Close 3) refl refl edition known,
+  pulse-answer B 2596 (Within 3) refl refl edition known,
 )

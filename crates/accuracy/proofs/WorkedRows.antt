@@ -10,6 +10,7 @@ use Rattle.algebra.specs.Fraction.{Side, lower, upper, SquareWithin}
 use Rattle.algebra.proofs.Fraction.{near-root}
 use Rattle.algebra.proofs.Lists.{getD-tabulate}
 use Rattle.rows.specs.declared.Row.{Row}
+use Rattle.rows.specs.declared.Setup.{Setup}
 use Rattle.rows.specs.Orders.{orderCount}
 use Rattle.rows.specs.Rows.{ValuesFit}
 use Rattle.groups.specs.declared.Kind.{Kind}
@@ -22,34 +23,34 @@ use Rattle.accuracy.specs.Distance.{groupMargin, EveryOrder, valueOf, Va
 use Rattle.accuracy.specs.CallList.{CallList, accepted, ExactBook, state}
 use Rattle.accuracy.specs.Claim.{Worked, WorkedList, Feeds, reportedBook}
 use Rattle.accuracy.proofs.GroupDistance.{groups-near}
-use Rattle.accuracy.proofs.AcceptedCalls.{accepted-system, each-accepted-carry}
+use Rattle.accuracy.proofs.AcceptedCalls.{accepted-setup, each-accepted-carry}
 use Rattle.accuracy.proofs.Books.{BookNear, margins-kept, exact-book-near}
 
 module _ (kind : Kind) (row : Row) (window : List ℤ) (worked : Worked kind row window) where
   worked-fits : ValuesFit row
   unfolding ValuesFit
-  worked-fits i = rw (worked .values) (groupValues-le kind (row .system) _ i)
+  worked-fits i = rw (worked .values) (groupValues-le kind (row .setup) _ i)
 
   -- the value that the row holds of an order
-  worked-value : EveryOrder (λ order. valueAt (order - 1) row ≡ valueOf kind (row .system) order window)
+  worked-value : EveryOrder (λ order. valueAt (order - 1) row ≡ valueOf kind (row .setup) order window)
   unfolding groupValues
   worked-value order positive le =
       rw (worked .values)
-      (getD-tabulate orderCount _ (order - 1) 0 (omega arith) ∙ ap (λ h. valueOf kind (row .system) h window) (omega arith))
+      (getD-tabulate orderCount _ (order - 1) 0 (omega arith) ∙ ap (λ h. valueOf kind (row .setup) h window) (omega arith))
 
   -- it is near the exact group, where a book accepts the row
   pub worked-near :
       (list : CallList) (count : ℕ) →
       accepted list count row ≡ true →
-      EveryOrder (λ order. ValueNear kind (row .system) order window (valueAt (order - 1) row))
+      EveryOrder (λ order. ValueNear kind (row .setup) order window (valueAt (order - 1) row))
   unfolding GroupsNear
   worked-near list count taken order positive le =
-      let known = accepted-system list count row taken in
-      let near = groups-near kind (row .system) window known (worked .in-range) order positive le in
+      let known = accepted-setup list count row taken in
+      let near = groups-near kind (row .setup) window known (worked .in-range) order positive le in
       rw (worked-value order positive le) (near .value-near)
 
 -- the accepted rows of a worked list hold values of 32 bits
-pub worked-list-fits : (kind : Kind) (list : CallList) → WorkedList kind list → AcceptedFit (list .system) 0 (list .rows)
+pub worked-list-fits : (kind : Kind) (list : CallList) → WorkedList kind list → AcceptedFit (list .setup) 0 (list .rows)
 unfolding WorkedList
 worked-list-fits kind list =
     each-accepted-carry (λ row. row) _ ValuesFit (accepted list)
@@ -58,11 +59,11 @@ worked-list-fits kind list =
 
 -- both sides of the distance
 square-within :
-    (side : Side) (kind : Kind) (system order : ℕ) (window : List ℤ) (value : ℕ) →
-    ValueNear kind system order window value →
-    SquareWithin side value (exactGroup kind system order window) groupMargin
-square-within lower kind system order window value near = near .not-far-above
-square-within upper kind system order window value near = near .not-far-below
+    (side : Side) (kind : Kind) (setup : Setup) (order : ℕ) (window : List ℤ) (value : ℕ) →
+    ValueNear kind setup order window value →
+    SquareWithin side value (exactGroup kind setup order window) groupMargin
+square-within lower kind setup order window value near = near .not-far-above
+square-within upper kind setup order window value near = near .not-far-below
 
 -- the exact books of an order are near its reported book
 pub order-book-near :

@@ -4,6 +4,7 @@ use mathlib.Core.Bool.{Bool}
 use mathlib.Core.List.{List, map}
 use Prim.Native.Nat.{ℕ}
 use Rattle.rows.specs.declared.Row.{Row}
+use Rattle.rows.specs.declared.Setup.{Setup}
 use Rattle.observation.specs.declared.Observation.{Observation}
 use Rattle.observation.specs.Book.{Book, emptyBook}
 use Rattle.observation.specs.Smoothing.{reported}
@@ -14,19 +15,19 @@ use Rattle.accuracy.specs.ExactBook.{exact}
 
 -- "any list of add row calls, refused ones included"
 pub record CallList : Type 0 where
-  -- "The first gets a fresh record": its system
-  pub system : ℕ
+  -- "The first gets a fresh record": its setup
+  pub setup : Setup
   -- the rows that add row is called with
   pub rows : List Row
 
 module _ (list : CallList) where
   -- the record after the calls: "each later one the record that the call before returned"
   unfoldable pub after : Observation
-  after = recordAfter (freshAnswer (list .system) .observation) (list .rows)
+  after = recordAfter (freshAnswer (list .setup) .observation) (list .rows)
 
-  -- the rows that a book of the list accepts at a count: "read with the book's system and count"
+  -- the rows that a book of the list accepts at a count: "read with the book's system and count", and its edition (document 02, card 7)
   abbrev pub accepted : ℕ → Row → Bool
-  accepted = accepts (list .system)
+  accepted = accepts (list .setup)
 
   -- a reported book, by what it reads of a row: "fed the row's own value and rounding"
   unfoldable pub reportedFrom : (Row → ℕ) → Book reported

@@ -1,4 +1,5 @@
--- Demand 3 as one claim about a list of add row calls as a whole (document 01, "The list" and "Class A verdicts"), its verdicts in every class (document 02, card 1).
+-- Demand 3 as one claim about a list of add row calls as a whole (document 01, "The list" and "Class A verdicts"), under every edition
+-- and with verdicts in every class (document 02, cards 1 and 7).
 use mathlib.Core.Path.{_≡_}
 use mathlib.Core.Bool.{true}
 use mathlib.Core.Logic.{_⊎_}
@@ -9,7 +10,8 @@ use Rattle.algebra.specs.Fraction.{whole, Side, lower, upper, RootBound, _+ᶠ_
 use Rattle.refusals.specs.Numbers.{noRefusal}
 use Rattle.spectrum.specs.Line.{linesOf}
 use Rattle.rows.specs.declared.Row.{Row}
-use Rattle.rows.specs.Systems.{isSystem}
+use Rattle.rows.specs.Setups.{isSetup}
+use Rattle.rows.specs.declared.Setup.{Setup}
 use Rattle.groups.specs.declared.Kind.{Kind}
 use Rattle.groups.specs.Group.{groupValues}
 use Rattle.groups.specs.Exact.{exactGroup}
@@ -25,15 +27,15 @@ use Rattle.verdict.specs.declared.Verdict.{Verdict}
 use Rattle.verdict.specs.declared.Verdict.the-variants.{Within, Close, Over}
 use Rattle.verdict.specs.declared.VerdictAnswer.the-variants.{Given}
 use Rattle.verdict.specs.Call.{verdictRefusal, verdictAnswer, orderNumber}
-use Rattle.accuracy.specs.Distance.{EveryOrder, InRange, GroupsNear}
+use Rattle.accuracy.specs.Distance.{EveryOrder, InRange, WeightsNear, GroupsNear}
 use Rattle.accuracy.specs.ExactBook.{exact}
 use Rattle.accuracy.specs.Rule.{Passes, AverageExceeds, PeakExceeds, AverageTouches, PeakTouches}
 use Rattle.accuracy.specs.CallList.{CallList, after, accepted, reportedFrom, ExactBook, state}
 
--- a row is worked from samples if, with its system, it holds the 40 values of the kind that are answered for the lines of one window in range
+-- a row is worked from samples if, with its system and its edition, it holds the 40 values of the kind that are answered for the lines of one window in range
 pub record Worked (kind : Kind) (row : Row) (window : List ℤ) : Type 0 where
   pub in-range : InRange window
-  pub values : row .values ≡ groupValues kind (row .system) (linesOf window)
+  pub values : row .values ≡ groupValues kind (row .setup) (linesOf window)
 
 -- "Accepted rows are worked from samples, all of one kind; a refused row may hold anything"
 unfoldable pub WorkedList : Kind → CallList → Type 0
@@ -45,7 +47,7 @@ unfoldable pub Feeds : Side → Kind → ℕ → Fed exact → Type 0
 Feeds side kind order call =
     (window : List ℤ) ×
     Worked kind (call .row) window ×
-    RootBound side (call .value) (exactGroup kind (call .row .system) order window)
+    RootBound side (call .value) (exactGroup kind (call .row .setup) order window)
 
 -- the reported book of an order reads the row's value at its place
 abbrev pub reportedBook : CallList → ℕ → Book reported
@@ -79,8 +81,8 @@ module _ (kind : Kind) (list : CallList) where
 
   -- what holds after a list of calls, and of the verdicts then asked
   pub record ListHolds : Type 0 where
-    -- the record's system, n, smoothed values, sums and peaks are those of the reported books
-    pub same-system : after list .system ≡ list .system
+    -- the record's system and edition, n, smoothed values, sums and peaks are those of the reported books
+    pub same-setup : after list .setup ≡ list .setup
     pub same-books : EveryOrder (λ order. bookAt (after list) (order - 1) ≡ reportedBook list order)
     -- smoothed is at least the smoothing of the l less 12, and at most that of the u plus 12
     pub smoothed-low : EveryOrder (λ order.
@@ -91,24 +93,25 @@ module _ (kind : Kind) (list : CallList) where
     pub verdicts : (q : Question) → verdictRefusal (after list) q ≡ noRefusal → GivenVerdict q
 
 -- Windows back to back that `observe` takes: the calls that it makes are a list of document 01, the row of each window in turn. Its rows are worked from samples, so no hypothesis is left.
-module _ (kind : Kind) (system : ℕ) (recording : List ℤ) (start windows : ℕ) where
+module _ (kind : Kind) (setup : Setup) (recording : List ℤ) (start windows : ℕ) where
   abbrev pub observedList : CallList
-  observedList = record { system = system; rows = windowRows kind system recording start windows }
+  observedList = record { setup = setup; rows = windowRows kind setup recording start windows }
 
   pub record ObservedHolds : Type 0 where
     -- the record that is answered is the one after that list
-    pub same-record : observeAnswer kind system recording start windows .observation ≡ after observedList
+    pub same-record : observeAnswer kind setup recording start windows .observation ≡ after observedList
     -- it holds so many windows, whose rows are worked from samples
-    pub windows-held : observeAnswer kind system recording start windows .observation .windows ≡ windows
+    pub windows-held : observeAnswer kind setup recording start windows .observation .windows ≡ windows
     pub worked : WorkedList kind observedList
     pub holds : ListHolds kind observedList
 
--- Demand 3: the distance of every group value; for every kind and both systems the claim about every list of
+-- Demand 3: the distance of 7 units, over weights and so of every group value; for every kind, both systems and both editions the claim about every list of
 -- calls whose accepted rows are worked from samples; and so of every observation that is not refused.
 pub record Demand3Holds : Type 0 where
+  pub weights : WeightsNear
   pub groups : GroupsNear
-  pub lists : (kind : Kind) (list : CallList) → isSystem (list .system) ≡ true → WorkedList kind list → ListHolds kind list
+  pub lists : (kind : Kind) (list : CallList) → isSetup (list .setup) ≡ true → WorkedList kind list → ListHolds kind list
   pub observed :
-      (kind : Kind) (system : ℕ) (recording : List ℤ) (start windows : ℕ) →
-      observeRefusal system recording start windows ≡ noRefusal →
-      ObservedHolds kind system recording start windows
+      (kind : Kind) (setup : Setup) (recording : List ℤ) (start windows : ℕ) →
+      observeRefusal setup recording start windows ≡ noRefusal →
+      ObservedHolds kind setup recording start windows

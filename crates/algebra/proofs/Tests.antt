@@ -1,13 +1,13 @@
 -- Tests as the code computes them: by their parts, and one that follows from another.
 use mathlib.Core.Path.{_≡_, refl, sym, _∙_}
 use mathlib.Core.Logic.{_⊎_, inl, inr}
-use mathlib.Core.Bool.{Bool, true, false, true≢false, _&&_, and-true, and-assoc}
+use mathlib.Core.Bool.{Bool, true, false, true≢false, _&&_, _||_, and-true, and-assoc}
 use mathlib.Core.List.{List, [], _∷_}
 use Prim.Native.Nat.{ℕ, zero, suc, _≤_, _<_}
 use native.Mathlib.Decide.{decLe}
 use native.Mathlib.Omega.{arith}
-use borrow.Author.Tests.{leb-true, le-leb, lt-leb}
-use lib.Dec.{leb, ltb}
+use borrow.Author.Tests.{eqb-true, leb-true, le-leb, lt-leb}
+use lib.Dec.{eqb, leb, ltb}
 use lib.ListN.{getD}
 use Rattle.algebra.specs.Lists.{allTrue}
 
@@ -47,6 +47,14 @@ tests-worked = (refl, refl, refl, refl, refl)
 pub leb-range : (least number most : ℕ) → leb least number && leb number most ≡ true → (least ≤ number) × (number ≤ most)
 leb-range least number most e =
     (leb-true least number (and-left (leb least number) (leb number most) e), leb-true number most (and-right (leb least number) (leb number most) e))
+
+-- a number that is tested to be one of two
+pub eqb-either : (n a b : ℕ) → (eqb n a || eqb n b) ≡ true → (n ≡ a) ⊎ (n ≡ b)
+eqb-either n a b e = go (eqb n a) (eqb n b) refl refl e
+  where
+    go : (is-a is-b : Bool) → eqb n a ≡ is-a → eqb n b ≡ is-b → (is-a || is-b) ≡ true → (n ≡ a) ⊎ (n ≡ b)
+    go true is-b p q r = inl (eqb-true n a p)
+    go false is-b p q r = inr (eqb-true n b (q ∙ r))
 
 -- two tests that follow from each other are the same
 pub leb-same : (a b c d : ℕ) → (a ≤ b → c ≤ d) → (c ≤ d → a ≤ b) → leb a b ≡ leb c d

@@ -11,6 +11,7 @@ use Rattle.spectrum.specs.Spectrum.{spectrumRefusal, spectrumExit}
 use Rattle.spectrum.proofs.Accepted as Accepted
 use Rattle.groups.specs.Group.{groupRefusal}
 use Rattle.groups.proofs.GroupSum.{accepted, accepted-value}
+use Rattle.rows.specs.declared.Setup.{Setup}
 use Rattle.rows.proofs.Orders.{order-bounds}
 use Rattle.accuracy.specs.Distance.{InRange, GroupsNear}
 use Rattle.accuracy.proofs.GroupDistance.{groups-near}
@@ -30,24 +31,24 @@ module _ (recording : List ℤ) (start : ℕ) (buffer : List ℕ) (taken : spect
   lines-left = rw taken
 
 pub called-group :
-    (recording : List ℤ) (start : ℕ) (buffer : List ℕ) (number system order before : ℕ) →
-    CalledGroup recording start buffer number system order before
+    (recording : List ℤ) (start : ℕ) (buffer : List ℕ) (number : ℕ) (setup : Setup) (order before : ℕ) →
+    CalledGroup recording start buffer number setup order before
 unfolding groupCallRefusal groupCallExit GroupsNear
-called-group recording start buffer number system order before taken asked =
+called-group recording start buffer number setup order before taken asked =
     let window = windowAt recording start in
     let lines = linesOf window in
     let left = lines-left recording start buffer taken in
-    let passed : groupRefusal system order lines ≡ noRefusal = own-first-none (firstFault (kindCheck number ∷ [])) _ (rw left at asked) in
-    let call = accepted system order lines passed in
+    let passed : groupRefusal setup order lines ≡ noRefusal = own-first-none (firstFault (kindCheck number ∷ [])) _ (rw left at asked) in
+    let call = accepted setup order lines passed in
     let bounds = order-bounds order (call .known-order) in
     let in-range = window-in-range recording start buffer taken in
-    let near = groups-near (kindWith number) system window (call .known-system) in-range order (omega arith) (bounds .1) in
-    let value = accepted-value (kindWith number) system order lines passed in
+    let near = groups-near (kindWith number) setup window (call .known-setup) in-range order (omega arith) (bounds .1) in
+    let value = accepted-value (kindWith number) setup order lines passed in
     rw (asked, left, ← value) (near .value-near)
 
 pub called-row :
-    (recording : List ℤ) (start : ℕ) (buffer : List ℕ) (number system : ℕ) (before : List ℕ) →
-    CalledRow recording start buffer number system before
+    (recording : List ℤ) (start : ℕ) (buffer : List ℕ) (number : ℕ) (setup : Setup) (before : List ℕ) →
+    CalledRow recording start buffer number setup before
 unfolding rowCallRefusal rowCallExit
-called-row recording start buffer number system before taken asked =
+called-row recording start buffer number setup before taken asked =
     record { in-range = window-in-range recording start buffer taken; values = rw (asked, lines-left recording start buffer taken) }

@@ -7,6 +7,7 @@ use native.Mathlib.Omega.{arith}
 use lib.IntN.{ℤ}
 use Rattle.refusals.specs.Numbers.{noRefusal}
 use Rattle.refusals.specs.Answers.{firstFault}
+use Rattle.rows.specs.declared.Setup.{Setup}
 use Rattle.groups.specs.declared.Kind.{Kind}
 use Rattle.observation.specs.Book.{Book}
 use Rattle.observation.specs.Smoothing.{reported}
@@ -77,14 +78,14 @@ module _
 
 -- the words that an observation leaves, where neither the own checks nor the library's refuse it
 observed-words :
-    (recording : List ℤ) (start number system windows : ℕ) (before : List ℕ) → CalledObserve recording start number system windows before
+    (recording : List ℤ) (start number : ℕ) (setup : Setup) (windows : ℕ) (before : List ℕ) → CalledObserve recording start number setup windows before
 unfolding observeCallRefusal observeCallExit
-observed-words recording start number system windows before asked =
+observed-words recording start number setup windows before asked =
     let passed = own-first-none (firstFault (kindCheck number ∷ wordCountCheck recordWords before ∷ [])) _ asked in
     rw asked
-    (words-hold (kindWith number) (observedList (kindWith number) system recording start windows) _
-    (observed-follows number system recording start windows passed)
-    (demand3 .observed (kindWith number) system recording start windows passed .worked))
+    (words-hold (kindWith number) (observedList (kindWith number) setup recording start windows) _
+    (observed-follows number setup recording start windows passed)
+    (demand3 .observed (kindWith number) setup recording start windows passed .worked))
 
 pub exported-demand3 : ExportedDemand3Holds
 exported-demand3 =
@@ -94,5 +95,5 @@ exported-demand3 =
       lists = λ kind words whole calls list came worked.
           let follow = calls-follow calls none words whole in
           words-hold kind list _ (subst (λ begun. FollowsBegun begun (wordsAfter words calls)) came follow) worked;
-      observed = λ recording start number system windows before asked. observed-words recording start number system windows before asked;
+      observed = λ recording start number setup windows before asked. observed-words recording start number setup windows before asked;
     }

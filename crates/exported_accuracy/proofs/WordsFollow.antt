@@ -1,5 +1,5 @@
 -- The words of a record follow the list of document 01 that the calls have come to.
--- The invariant: before the first fresh record or observation there are 122 words, any; after it they are the words of the record after the list.
+-- The invariant: before the first fresh record or observation there are 123 words, any; after it they are the words of the record after the list.
 use mathlib.Core.Path.{_≡_, refl, sym, ap}
 use mathlib.Core.Bool.{Bool, true, false, cond, not, _&&_}
 use mathlib.Core.List.{List, [], _∷_, _++_, append-nil}
@@ -13,9 +13,13 @@ use lib.ListN.{length, take, drop, length-take, take-append-drop, drop-of-length
 use lib.Seq.{take-all}
 use borrow.Author.Tests.{eqb-true, eq-eqb, ne-eqb, le-leb, lt-leb}
 use Rattle.algebra.proofs.Lists.{length-tabulate}
-use Rattle.refusals.specs.Numbers.{noRefusal, unknownSystem}
+use Rattle.refusals.specs.Numbers.{noRefusal, unknownSystem, unknownEdition}
 use Rattle.refusals.specs.Answers.{firstFault, unlessRefused}
 use Rattle.rows.specs.Systems.{isSystem}
+use Rattle.rows.specs.Editions.{isEdition}
+use Rattle.rows.specs.Setups.{isSetup}
+use Rattle.rows.proofs.Setups.{isSetup-known}
+use Rattle.rows.specs.declared.Setup.{Setup}
 use Rattle.rows.specs.Orders.{orderCount}
 use Rattle.rows.specs.declared.Row.{Row}
 use Rattle.observation.specs.declared.Observation.{Observation}
@@ -26,7 +30,7 @@ use Rattle.observation.proofs.SoundRecord.{fresh-of-known}
 use Rattle.observe.specs.Observe.{windowRows, observeRefusal}
 use Rattle.accuracy.specs.CallList.{CallList, after}
 use Rattle.accuracy.specs.Claim.{observedList}
-use Rattle.accuracy.proofs.ObservedRows.{observed-system}
+use Rattle.accuracy.proofs.ObservedRows.{observed-setup}
 use Rattle.exported_windows.specs.Kinds.{unknownKind, isKind, kindWith}
 use Rattle.exported_answers.specs.OwnChecks.{wrongWordCount, wordCountCheck, ownFirst}
 use Rattle.record_words.specs.Words.{recordWords, partsOf, wordsOf, recordOf, Whole}
@@ -51,9 +55,9 @@ by-refusal P refusal {accepted} {unchanged} success refused = either (eqb refusa
 
 -- ---- records with 40 values in each part
 
-empty-whole : (system : ℕ) → Whole (emptyRecord system)
+empty-whole : (setup : Setup) → Whole (emptyRecord setup)
 unfolding emptyRecord Whole partsOf
-empty-whole system = refl
+empty-whole setup = refl
 
 with-row-whole : (o : Observation) (row : Row) → Whole (withRow o row)
 unfolding withRow Whole partsOf
@@ -68,16 +72,16 @@ record-after-whole o (row ∷ rows) before =
 -- ---- the invariant
 
 pub record Follows (list : CallList) (words : List ℕ) : Type 0 where
-  pub known : isSystem (list .system) ≡ true
+  pub known : isSetup (list .setup) ≡ true
   pub held : words ≡ wordsOf (after list)
 
 abbrev pub FollowsBegun : Option CallList → List ℕ → Type 0
 FollowsBegun none words = length words ≡ recordWords
 FollowsBegun (some list) words = Follows list words
 
-pub after-whole : (list : CallList) → isSystem (list .system) ≡ true → Whole (after list)
+pub after-whole : (list : CallList) → isSetup (list .setup) ≡ true → Whole (after list)
 unfolding after
-after-whole list known = record-after-whole _ (list .rows) (rw (fresh-of-known (list .system) known) (empty-whole (list .system)))
+after-whole list known = record-after-whole _ (list .rows) (rw (fresh-of-known (list .setup) known) (empty-whole (list .setup)))
 
 -- the words hold the record after the list
 pub record-held : (list : CallList) (words : List ℕ) → Follows list words → recordOf words ≡ after list
@@ -119,63 +123,71 @@ row-follows (some list) words row follows =
 
 -- an observation that is not refused is the list of its windows' rows
 pub observed-follows :
-    (number system : ℕ) (recording : List ℤ) (start windows : ℕ) →
-    observeRefusal system recording start windows ≡ noRefusal →
+    (number : ℕ) (setup : Setup) (recording : List ℤ) (start windows : ℕ) →
+    observeRefusal setup recording start windows ≡ noRefusal →
     Follows
-    (observedList (kindWith number) system recording start windows)
-    (wordsOf (recordAfter (emptyRecord system) (windowRows (kindWith number) system recording start windows)))
+    (observedList (kindWith number) setup recording start windows)
+    (wordsOf (recordAfter (emptyRecord setup) (windowRows (kindWith number) setup recording start windows)))
 unfolding after
-observed-follows number system recording start windows accepted =
-    let known = observed-system (kindWith number) system recording start windows accepted in
-    record { known = known; held = rw (fresh-of-known system known) }
+observed-follows number setup recording start windows accepted =
+    let known = observed-setup (kindWith number) setup recording start windows accepted in
+    record { known = known; held = rw (fresh-of-known setup known) }
 
 module _ (begun : Option CallList) (words : List ℕ) (follows : FollowsBegun begun words) where
   whole : length words ≡ recordWords
   whole = follows-length begun words follows
 
-  fresh-follows : (system : ℕ) → FollowsBegun (listAsked begun (freshRecord system)) (freshCallExit system words)
-  unfolding listAsked freshCallExit freshCallRefusal freshRefusal after recordAfter
-  fresh-follows system = rw (eq-eqb (length words) recordWords whole) (go (isSystem system) refl)
+  fresh-follows : (setup : Setup) → FollowsBegun (listAsked begun (freshRecord setup)) (freshCallExit setup words)
+  unfolding listAsked freshCallExit freshCallRefusal freshRefusal after recordAfter isSetup
+  fresh-follows setup =
+      rw (eq-eqb (length words) recordWords whole) (go (isSystem (setup .system)) (isEdition (setup .edition)) refl refl)
     where
       go :
-          (known : Bool) →
-          isSystem system ≡ known →
+          (known edition : Bool) →
+          isSystem (setup .system) ≡ known →
+          isEdition (setup .edition) ≡ edition →
           FollowsBegun
-          (cond known (some (record { system = system; rows = [] })) begun)
-          (unlessRefused (firstFault ((not known, unknownSystem) ∷ [])) (wordsOf (emptyRecord system)) words)
-      go true e = record { known = e; held = ap wordsOf (sym (fresh-of-known system e)) }
-      go false e = follows
+          (cond (known && edition) (some (record { setup = setup; rows = [] })) begun)
+          (unlessRefused
+          (firstFault ((not known, unknownSystem) ∷ (not edition, unknownEdition) ∷ []))
+          (wordsOf (emptyRecord setup))
+          words)
+      go true true e f =
+          let is-setup = isSetup-known setup e f in
+          record { known = is-setup; held = ap wordsOf (sym (fresh-of-known setup is-setup)) }
+      go true false e f = follows
+      go false edition e f = follows
 
   observe-follows :
-      (number system : ℕ) (recording : List ℤ) (start windows : ℕ) →
-      FollowsBegun (listAsked begun (observeWindows number system recording start windows)) (observeCallExit number system recording start windows words)
+      (number : ℕ) (setup : Setup) (recording : List ℤ) (start windows : ℕ) →
+      FollowsBegun (listAsked begun (observeWindows number setup recording start windows)) (observeCallExit number setup recording start windows words)
   unfolding listAsked observeCallExit observeCallRefusal
-  observe-follows number system recording start windows =
-      rw (eq-eqb (length words) recordWords whole) (go (isKind number) (eqb (observeRefusal system recording start windows) noRefusal) refl)
+  observe-follows number setup recording start windows =
+      rw (eq-eqb (length words) recordWords whole) (go (isKind number) (eqb (observeRefusal setup recording start windows) noRefusal) refl)
     where
       list : CallList
-      list = observedList (kindWith number) system recording start windows
+      list = observedList (kindWith number) setup recording start windows
 
       go :
           (known accepted : Bool) →
-          eqb (observeRefusal system recording start windows) noRefusal ≡ accepted →
+          eqb (observeRefusal setup recording start windows) noRefusal ≡ accepted →
           FollowsBegun
-          (cond (known && eqb (observeRefusal system recording start windows) noRefusal) (some list) begun)
+          (cond (known && eqb (observeRefusal setup recording start windows) noRefusal) (some list) begun)
           (unlessRefused
-          (ownFirst ((not known, unknownKind) ∷ []) (observeRefusal system recording start windows))
-          (wordsOf (recordAfter (emptyRecord system) (windowRows (kindWith number) system recording start windows)))
+          (ownFirst ((not known, unknownKind) ∷ []) (observeRefusal setup recording start windows))
+          (wordsOf (recordAfter (emptyRecord setup) (windowRows (kindWith number) setup recording start windows)))
           words)
-      go true true e = rw e (observed-follows number system recording start windows (eqb-true _ _ e))
+      go true true e = rw e (observed-follows number setup recording start windows (eqb-true _ _ e))
       go true false e = rw e follows
       go false accepted e = follows
 
   add-row-follows :
-      (system : ℕ) (values : List ℕ) → FollowsBegun (listAsked begun (addRow system values)) (addRowCallExit words system values)
+      (setup : Setup) (values : List ℕ) → FollowsBegun (listAsked begun (addRow setup values)) (addRowCallExit words setup values)
   unfolding listAsked addRowCallExit addRowCallRefusal
-  add-row-follows system values = rw (eq-eqb (length words) recordWords whole) (go (eqb (length values) orderCount))
+  add-row-follows setup values = rw (eq-eqb (length words) recordWords whole) (go (eqb (length values) orderCount))
     where
       row : Row
-      row = lentRow system values
+      row = lentRow setup values
 
       go :
           (forty : Bool) →
@@ -190,27 +202,27 @@ module _ (begun : Option CallList) (words : List ℕ) (follows : FollowsBegun be
 
   asked-follows : (asked : Asked) → FollowsBegun (listAsked begun asked) (leftBy words asked)
   unfolding leftBy listAsked
-  asked-follows (freshRecord system) = fresh-follows system
-  asked-follows (observeWindows number system recording start windows) = observe-follows number system recording start windows
-  asked-follows (addRow system values) = add-row-follows system values
+  asked-follows (freshRecord setup) = fresh-follows setup
+  asked-follows (observeWindows number setup recording start windows) = observe-follows number setup recording start windows
+  asked-follows (addRow setup values) = add-row-follows setup values
   asked-follows (askVerdict q) = follows
 
-  -- other than 122 words stay as they were
+  -- other than 123 words stay as they were
   left-alone : (part : List ℕ) (asked : Asked) → (length part ≡ recordWords → ⊥) → leftBy part asked ≡ part
   unfolding leftBy freshCallExit freshCallRefusal observeCallExit observeCallRefusal addRowCallExit addRowCallRefusal
-  left-alone part (freshRecord system) other = rw (ne-eqb (length part) recordWords other)
-  left-alone part (observeWindows number system recording start windows) other = by-kind (isKind number)
+  left-alone part (freshRecord setup) other = rw (ne-eqb (length part) recordWords other)
+  left-alone part (observeWindows number setup recording start windows) other = by-kind (isKind number)
     where
       by-kind :
           (known : Bool) →
           unlessRefused
-          (ownFirst ((not known, unknownKind) ∷ wordCountCheck recordWords part ∷ []) (observeRefusal system recording start windows))
-          (wordsOf (recordAfter (emptyRecord system) (windowRows (kindWith number) system recording start windows)))
+          (ownFirst ((not known, unknownKind) ∷ wordCountCheck recordWords part ∷ []) (observeRefusal setup recording start windows))
+          (wordsOf (recordAfter (emptyRecord setup) (windowRows (kindWith number) setup recording start windows)))
           part
           ≡ part
       by-kind true = rw (ne-eqb (length part) recordWords other)
       by-kind false = refl
-  left-alone part (addRow system values) other = rw (ne-eqb (length part) recordWords other)
+  left-alone part (addRow setup values) other = rw (ne-eqb (length part) recordWords other)
   left-alone part (askVerdict q) other = refl
 
   call-follows : (call : Call) → FollowsBegun (listAtExit begun call) (wordsAtExit words call)

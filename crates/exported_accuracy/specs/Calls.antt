@@ -7,7 +7,8 @@ use lib.Dec.{eqb, leb}
 use lib.IntN.{ℤ}
 use lib.ListN.{length, take, drop}
 use Rattle.refusals.specs.Numbers.{noRefusal}
-use Rattle.rows.specs.Systems.{isSystem}
+use Rattle.rows.specs.Setups.{isSetup}
+use Rattle.rows.specs.declared.Setup.{Setup}
 use Rattle.rows.specs.Orders.{orderCount}
 use Rattle.rows.specs.declared.Row.{Row}
 use Rattle.verdict.specs.declared.Question.{Question}
@@ -21,20 +22,20 @@ use Rattle.exported_windows.specs.ObserveCall.{observeCallExit}
 
 -- what is asked of a record's words
 pub data Asked : Type 0 where
-  -- kifsang_fresh_record with a system
-  freshRecord : ℕ → Asked
-  -- kifsang_observe with a kind's number, a system, a recording, the start of its first window and a count of windows
-  observeWindows : ℕ → ℕ → List ℤ → ℕ → ℕ → Asked
-  -- kifsang_add_row with a system and values
-  addRow : ℕ → List ℕ → Asked
+  -- kifsang_fresh_record with a setup
+  freshRecord : Setup → Asked
+  -- kifsang_observe with a kind's number, a setup, a recording, the start of its first window and a count of windows
+  observeWindows : ℕ → Setup → List ℤ → ℕ → ℕ → Asked
+  -- kifsang_add_row with a setup and values
+  addRow : Setup → List ℕ → Asked
   -- kifsang_verdict with what is asked
   askVerdict : Question → Asked
 
 -- what some words hold at exit, by the contract of each function; a verdict only reads them
 unfoldable pub leftBy : List ℕ → Asked → List ℕ
-leftBy words (freshRecord system) = freshCallExit system words
-leftBy words (observeWindows number system recording start windows) = observeCallExit number system recording start windows words
-leftBy words (addRow system values) = addRowCallExit words system values
+leftBy words (freshRecord setup) = freshCallExit setup words
+leftBy words (observeWindows number setup recording start windows) = observeCallExit number setup recording start windows words
+leftBy words (addRow setup values) = addRowCallExit words setup values
 leftBy words (askVerdict q) = words
 
 -- a call lends so many of the caller's words from the first on, all of them where there are fewer
@@ -54,20 +55,20 @@ wordsAfter words (call ∷ calls) = wordsAfter (wordsAtExit words call) calls
 -- one add row call more; before the first fresh record or observation there is no list
 unfoldable pub withCall : Option CallList → Row → Option CallList
 withCall none row = none
-withCall (some list) row = some (record { system = list .system; rows = list .rows ++ (row ∷ []) })
+withCall (some list) row = some (record { setup = list .setup; rows = list .rows ++ (row ∷ []) })
 
 -- "A fresh record begins another list": one that is not refused. An observation begins with one too, and goes on with the rows of its windows. Values that are not 40 are no row.
 unfoldable pub listAsked : Option CallList → Asked → Option CallList
-listAsked begun (freshRecord system) = cond (isSystem system) (some (record { system = system; rows = [] })) begun
-listAsked begun (observeWindows number system recording start windows) =
-    cond (isKind number && eqb (observeRefusal system recording start windows) noRefusal)
-    (some (observedList (kindWith number) system recording start windows))
+listAsked begun (freshRecord setup) = cond (isSetup setup) (some (record { setup = setup; rows = [] })) begun
+listAsked begun (observeWindows number setup recording start windows) =
+    cond (isKind number && eqb (observeRefusal setup recording start windows) noRefusal)
+    (some (observedList (kindWith number) setup recording start windows))
     begun
-listAsked begun (addRow system values) =
-    cond (eqb (length values) orderCount) (withCall begun (lentRow system values)) begun
+listAsked begun (addRow setup values) =
+    cond (eqb (length values) orderCount) (withCall begun (lentRow setup values)) begun
 listAsked begun (askVerdict q) = begun
 
--- a call that lends fewer than 122 words is refused before it looks at the record
+-- a call that lends fewer than 123 words is refused before it looks at the record
 unfoldable pub listAtExit : Option CallList → Call → Option CallList
 listAtExit begun call = cond (leb recordWords (call .lent)) (listAsked begun (call .asked)) begun
 

@@ -1,4 +1,5 @@
--- Demand 3 of what the exported calls leave in the caller's buffers (document 01, "Groups", "The list" and "Class A verdicts"), their verdicts in every class (document 02, card 1).
+-- Demand 3 of what the exported calls leave in the caller's buffers (document 01, "Groups", "The list" and "Class A verdicts"), in every class
+-- and under every edition (document 02, cards 1 and 7).
 use mathlib.Core.Path.{_≡_}
 use mathlib.Core.List.{List}
 use mathlib.Core.Option.{none, some}
@@ -7,6 +8,7 @@ use lib.IntN.{ℤ}
 use lib.ListN.{length, getD}
 use Rattle.algebra.specs.Fraction.{whole, _+ᶠ_, _≤ᶠ_}
 use Rattle.refusals.specs.Numbers.{noRefusal}
+use Rattle.rows.specs.declared.Setup.{Setup}
 use Rattle.spectrum.specs.Line.{windowAt}
 use Rattle.spectrum.specs.Spectrum.{spectrumRefusal, spectrumExit}
 use Rattle.groups.specs.declared.Kind.{Kind}
@@ -56,40 +58,40 @@ pub record WordsHold (kind : Kind) (list : CallList) (words : List ℕ) : Type 0
       CalledVerdict kind list words q
 
 -- kifsang_spectrum of a recording, and then a call for its lines, neither refused
-module _ (recording : List ℤ) (start : ℕ) (buffer : List ℕ) (number system : ℕ) where
+module _ (recording : List ℤ) (start : ℕ) (buffer : List ℕ) (number : ℕ) (setup : Setup) where
   abbrev pub CalledGroup : ℕ → ℕ → Type 0
   CalledGroup order before =
       spectrumRefusal recording start buffer ≡ noRefusal →
-      groupCallRefusal number system order (spectrumExit recording start buffer) ≡ noRefusal →
-      ValueNear (kindWith number) system order (windowAt recording start)
-      (groupCallExit number system order (spectrumExit recording start buffer) before)
+      groupCallRefusal number setup order (spectrumExit recording start buffer) ≡ noRefusal →
+      ValueNear (kindWith number) setup order (windowAt recording start)
+      (groupCallExit number setup order (spectrumExit recording start buffer) before)
 
   abbrev pub CalledRow : List ℕ → Type 0
   CalledRow before =
       spectrumRefusal recording start buffer ≡ noRefusal →
-      rowCallRefusal number system (spectrumExit recording start buffer) before ≡ noRefusal →
+      rowCallRefusal number setup (spectrumExit recording start buffer) before ≡ noRefusal →
       Worked
       (kindWith number)
-      (lentRow system (rowCallExit number system (spectrumExit recording start buffer) before))
+      (lentRow setup (rowCallExit number setup (spectrumExit recording start buffer) before))
       (windowAt recording start)
 
 -- kifsang_observe, not refused: the words that it leaves hold what demand 3 claims of the list of the windows' rows, which are worked from samples
-abbrev pub CalledObserve : List ℤ → ℕ → ℕ → ℕ → ℕ → List ℕ → Type 0
-CalledObserve recording start number system windows before =
-    observeCallRefusal number system recording start windows before ≡ noRefusal →
-    WordsHold (kindWith number) (observedList (kindWith number) system recording start windows)
-    (observeCallExit number system recording start windows before)
+abbrev pub CalledObserve : List ℤ → ℕ → ℕ → Setup → ℕ → List ℕ → Type 0
+CalledObserve recording start number setup windows before =
+    observeCallRefusal number setup recording start windows before ≡ noRefusal →
+    WordsHold (kindWith number) (observedList (kindWith number) setup recording start windows)
+    (observeCallExit number setup recording start windows before)
 
 -- Demand 3 for the exported calls: the distance of a group value; a row that is worked from samples; and for any calls on
--- any 122 words, refused ones and ones that lend fewer words included, the claim about the list that they have come to,
+-- any 123 words, refused ones and ones that lend fewer words included, the claim about the list that they have come to,
 -- where its accepted rows are worked from samples of one kind; and of an observation, whose rows are.
 pub record ExportedDemand3Holds : Type 0 where
   pub groups :
-      (recording : List ℤ) (start : ℕ) (buffer : List ℕ) (number system order before : ℕ) →
-      CalledGroup recording start buffer number system order before
+      (recording : List ℤ) (start : ℕ) (buffer : List ℕ) (number : ℕ) (setup : Setup) (order before : ℕ) →
+      CalledGroup recording start buffer number setup order before
   pub rows :
-      (recording : List ℤ) (start : ℕ) (buffer : List ℕ) (number system : ℕ) (before : List ℕ) →
-      CalledRow recording start buffer number system before
+      (recording : List ℤ) (start : ℕ) (buffer : List ℕ) (number : ℕ) (setup : Setup) (before : List ℕ) →
+      CalledRow recording start buffer number setup before
   pub lists :
       (kind : Kind) (words : List ℕ) →
       length words ≡ recordWords →
@@ -98,5 +100,5 @@ pub record ExportedDemand3Holds : Type 0 where
       WorkedList kind list →
       WordsHold kind list (wordsAfter words calls)
   pub observed :
-      (recording : List ℤ) (start number system windows : ℕ) (before : List ℕ) →
-      CalledObserve recording start number system windows before
+      (recording : List ℤ) (start number : ℕ) (setup : Setup) (windows : ℕ) (before : List ℕ) →
+      CalledObserve recording start number setup windows before

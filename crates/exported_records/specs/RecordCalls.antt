@@ -4,33 +4,34 @@ use Prim.Native.Nat.{ℕ}
 use Rattle.refusals.specs.Answers.{unlessRefused}
 use Rattle.rows.specs.Orders.{orderCount}
 use Rattle.rows.specs.declared.Row.{Row}
+use Rattle.rows.specs.declared.Setup.{Setup}
 use Rattle.observation.specs.Calls.{emptyRecord, freshRefusal, withRow, addRowRefusal}
 use Rattle.exported_answers.specs.OwnChecks.{ownFirst, wordCountCheck}
 use Rattle.record_words.specs.Words.{recordWords, recordOf, wordsOf}
 
 -- 102; then the row "fresh record"
-unfoldable pub freshCallRefusal : ℕ → List ℕ → ℕ
-freshCallRefusal system words = ownFirst (wordCountCheck recordWords words ∷ []) (freshRefusal system)
+unfoldable pub freshCallRefusal : Setup → List ℕ → ℕ
+freshCallRefusal setup words = ownFirst (wordCountCheck recordWords words ∷ []) (freshRefusal setup)
 
 -- the words at exit; on a refusal what they were
-unfoldable pub freshCallExit : ℕ → List ℕ → List ℕ
-freshCallExit system words =
-    unlessRefused (freshCallRefusal system words) (wordsOf (emptyRecord system)) words
+unfoldable pub freshCallExit : Setup → List ℕ → List ℕ
+freshCallExit setup words =
+    unlessRefused (freshCallRefusal setup words) (wordsOf (emptyRecord setup)) words
 
 -- a row as the caller lends it
-abbrev pub lentRow : ℕ → List ℕ → Row
-lentRow system values = record { system = system; values = values }
+abbrev pub lentRow : Setup → List ℕ → Row
+lentRow setup values = record { setup = setup; values = values }
 
 -- 102 for the record and for the row; then the row "add row"
-unfoldable pub addRowCallRefusal : List ℕ → ℕ → List ℕ → ℕ
-addRowCallRefusal words system values =
+unfoldable pub addRowCallRefusal : List ℕ → Setup → List ℕ → ℕ
+addRowCallRefusal words setup values =
     ownFirst
     (wordCountCheck recordWords words ∷ wordCountCheck orderCount values ∷ [])
-    (addRowRefusal (recordOf words) (lentRow system values))
+    (addRowRefusal (recordOf words) (lentRow setup values))
 
-unfoldable pub addRowCallExit : List ℕ → ℕ → List ℕ → List ℕ
-addRowCallExit words system values =
+unfoldable pub addRowCallExit : List ℕ → Setup → List ℕ → List ℕ
+addRowCallExit words setup values =
     unlessRefused
-    (addRowCallRefusal words system values)
-    (wordsOf (withRow (recordOf words) (lentRow system values)))
+    (addRowCallRefusal words setup values)
+    (wordsOf (withRow (recordOf words) (lentRow setup values)))
     words

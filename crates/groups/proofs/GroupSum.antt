@@ -13,32 +13,36 @@ use borrow.Author.Tests.{ltb-false, eqb-true, ne-eqb, not-false}
 use Rattle.algebra.specs.Lists.{tabulate, anyOf}
 use Rattle.algebra.proofs.Lists.{anyOf-none, getD-tabulate-le, tabulate-same}
 use Rattle.integers.proofs.Root.{lt-rootLimit, root-of-largest, root-le-of-le}
-use Rattle.refusals.specs.Numbers.{noRefusal, unknownSystem, orderOutOfRange, wrongLineCount, lineTooLarge}
+use Rattle.refusals.specs.Numbers.{noRefusal, unknownSystem, unknownEdition, orderOutOfRange, wrongLineCount, lineTooLarge}
 use Rattle.refusals.proofs.Answers.{no-faults, unlessRefused-accepted, unlessRefused-refused}
 use Rattle.rows.specs.Systems.{isSystem}
+use Rattle.rows.specs.Editions.{isEdition, edition2}
+use Rattle.rows.specs.Setups.{isSetup, setupOf}
+use Rattle.rows.specs.declared.Setup.{Setup}
+use Rattle.rows.proofs.Setups.{isSetup-known}
 use Rattle.rows.specs.Orders.{orderCount, isOrder}
 use Rattle.rows.specs.Rows.{largestValue, refusedRow, ValuesFit}
 use Rattle.rows.proofs.Orders.{order-of-place}
 use Rattle.spectrum.specs.Line.{lineCount, largestLine, linesOf}
 use Rattle.groups.specs.declared.Kind.{Kind}
-use Rattle.groups.specs.Spans.{Weighted, weightsOf, weightedSum}
-use Rattle.groups.specs.Group.{lineAt, groupChecks, groupRefusal, groupValue, groupAnswer, groupValues, groupRowRefusal, groupRowAnswer, windowRow}
-use Rattle.groups.proofs.Weights.{totalTwiceWeight, largestTotal, weightedSum-le-total, weightsOf-total-le}
+use Rattle.groups.specs.Spans.{Weighted, weightsOf, totalTwiceWeight, largestTotal, weightedSum}
+use Rattle.groups.specs.Group.{lineAt, groupChecks, groupRefusal, valueOver, groupValue, groupAnswer, groupValues, groupRowRefusal, groupRowAnswer, windowRow}
+use Rattle.groups.proofs.Weights.{weightedSum-le-total, weightsOf-total-le}
 
 -- ---- a group that is not refused
 
-pub record Accepted (system order : ℕ) (lines : List ℕ) : Type 0 where
-  pub known-system : isSystem system ≡ true
+pub record Accepted (setup : Setup) (order : ℕ) (lines : List ℕ) : Type 0 where
+  pub known-setup : isSetup setup ≡ true
   pub known-order : isOrder order ≡ true
   pub line-count : length lines ≡ lineCount
   pub in-range : anyOf (ltb largestLine) lines ≡ false
 
-pub accepted : (system order : ℕ) (lines : List ℕ) → groupRefusal system order lines ≡ noRefusal → Accepted system order lines
+pub accepted : (setup : Setup) (order : ℕ) (lines : List ℕ) → groupRefusal setup order lines ≡ noRefusal → Accepted setup order lines
 unfolding groupRefusal
-accepted system order lines e =
-    let passed = no-faults (groupChecks system order lines) refl e in
+accepted setup order lines e =
+    let passed = no-faults (groupChecks setup order lines) refl e in
     record {
-      known-system = not-false _ (passed unknownSystem);
+      known-setup = isSetup-known setup (not-false _ (passed unknownSystem)) (not-false _ (passed unknownEdition));
       known-order = not-false _ (passed orderOutOfRange);
       line-count = eqb-true _ _ (not-false _ (passed wrongLineCount));
       in-range = passed lineTooLarge;
@@ -64,82 +68,82 @@ weightedSum-lt lines e xs h =
       mul-le-mul-right largestLine h,
     )
 
-module _ (kind : Kind) (system order : ℕ) (lines : List ℕ) where
+module _ (kind : Kind) (setup : Setup) (order : ℕ) (lines : List ℕ) where
   -- the sum of every group that is not refused
-  pub group-sum-lt : groupRefusal system order lines ≡ noRefusal → weightedSum (lineAt lines) (weightsOf kind system order) < 2 ^ 64
+  pub group-sum-lt : groupRefusal setup order lines ≡ noRefusal → weightedSum (lineAt lines) (weightsOf kind setup order) < 2 ^ 64
   group-sum-lt e =
-      let a = accepted system order lines e in
-      weightedSum-lt lines (a .in-range) (weightsOf kind system order)
-      (weightsOf-total-le kind system order (a .known-system) (a .known-order))
+      let a = accepted setup order lines e in
+      weightedSum-lt lines (a .in-range) (weightsOf kind setup order)
+      (weightsOf-total-le kind setup order (a .known-setup) (a .known-order))
 
   -- so its value is a number of 32 bits
-  pub groupValue-le : groupRefusal system order lines ≡ noRefusal → groupValue kind system order lines ≤ largestValue
-  unfolding groupValue
+  pub groupValue-le : groupRefusal setup order lines ≡ noRefusal → groupValue kind setup order lines ≤ largestValue
+  unfolding groupValue valueOver
   groupValue-le e =
-      let sum = weightedSum (lineAt lines) (weightsOf kind system order) in
+      let sum = weightedSum (lineAt lines) (weightsOf kind setup order) in
       let fits : sum ≤ 2 ^ 64 - 1 = omega (arith, group-sum-lt e) in
       rw root-of-largest at (root-le-of-le sum (2 ^ 64 - 1) fits (lt-rootLimit (2 ^ 64 - 1) (lit< tt)))
 
   -- what is answered for an order that is not refused, and for one that is
-  pub accepted-value : groupRefusal system order lines ≡ noRefusal
-      → groupAnswer kind system order lines .value ≡ groupValue kind system order lines
+  pub accepted-value : groupRefusal setup order lines ≡ noRefusal
+      → groupAnswer kind setup order lines .value ≡ groupValue kind setup order lines
   unfolding groupAnswer
-  accepted-value = unlessRefused-accepted (groupRefusal system order lines) (groupValue kind system order lines) 0
+  accepted-value = unlessRefused-accepted (groupRefusal setup order lines) (groupValue kind setup order lines) 0
 
-  refused-value : (groupRefusal system order lines ≡ noRefusal → ⊥) → groupAnswer kind system order lines .value ≡ 0
+  refused-value : (groupRefusal setup order lines ≡ noRefusal → ⊥) → groupAnswer kind setup order lines .value ≡ 0
   unfolding groupAnswer
-  refused-value = unlessRefused-refused (groupRefusal system order lines) (groupValue kind system order lines) 0
+  refused-value = unlessRefused-refused (groupRefusal setup order lines) (groupValue kind setup order lines) 0
 
   -- both are numbers of 32 bits
-  pub answered-value-le : groupAnswer kind system order lines .value ≤ largestValue
-  answered-value-le = by-refusal (ℕ-discrete (groupRefusal system order lines) noRefusal)
+  pub answered-value-le : groupAnswer kind setup order lines .value ≤ largestValue
+  answered-value-le = by-refusal (ℕ-discrete (groupRefusal setup order lines) noRefusal)
     where
-      by-refusal : Dec (groupRefusal system order lines ≡ noRefusal) → groupAnswer kind system order lines .value ≤ largestValue
+      by-refusal : Dec (groupRefusal setup order lines ≡ noRefusal) → groupAnswer kind setup order lines .value ≤ largestValue
       by-refusal (yes e) = rw (accepted-value e) (groupValue-le e)
       by-refusal (no f) = rw (refused-value f) (omega arith)
 
 -- ---- a row
 
 -- an order 1..40 is refused where the row is, with the same number
-pub groupRefusal-of-place : (system i : ℕ) (lines : List ℕ) → i < orderCount
-    → groupRefusal system (i + 1) lines ≡ groupRowRefusal system lines
+pub groupRefusal-of-place : (setup : Setup) (i : ℕ) (lines : List ℕ) → i < orderCount
+    → groupRefusal setup (i + 1) lines ≡ groupRowRefusal setup lines
 unfolding groupRefusal groupRowRefusal
-groupRefusal-of-place system i lines inside = rw (order-of-place i inside)
+groupRefusal-of-place setup i lines inside = rw (order-of-place i inside)
 
-module _ (kind : Kind) (system : ℕ) (lines : List ℕ) where
-  pub groupValues-le : (i : ℕ) → getD (groupValues kind system lines) i 0 ≤ largestValue
+module _ (kind : Kind) (setup : Setup) (lines : List ℕ) where
+  pub groupValues-le : (i : ℕ) → getD (groupValues kind setup lines) i 0 ≤ largestValue
   unfolding groupValues
-  groupValues-le = getD-tabulate-le orderCount _ largestValue (λ j inside. answered-value-le kind system (j + 1) lines)
+  groupValues-le = getD-tabulate-le orderCount _ largestValue (λ j inside. answered-value-le kind setup (j + 1) lines)
 
   -- the values of a row that is refused are 0
-  refused-values : (groupRowRefusal system lines ≡ noRefusal → ⊥) → groupValues kind system lines ≡ replicate orderCount 0
+  refused-values : (groupRowRefusal setup lines ≡ noRefusal → ⊥) → groupValues kind setup lines ≡ replicate orderCount 0
   unfolding groupValues
   refused-values f =
       tabulate-same orderCount _ 0
-      (λ i inside. refused-value kind system (i + 1) lines (λ e. f (sym (groupRefusal-of-place system i lines inside) ∙ e)))
+      (λ i inside. refused-value kind setup (i + 1) lines (λ e. f (sym (groupRefusal-of-place setup i lines inside) ∙ e)))
 
   -- so the row that is answered always holds the values that are answered for its orders
-  pub groupRowAnswer-values : groupRowAnswer kind system lines .row .values ≡ groupValues kind system lines
+  pub groupRowAnswer-values : groupRowAnswer kind setup lines .row .values ≡ groupValues kind setup lines
   unfolding groupRowAnswer refusedRow
-  groupRowAnswer-values = by-refusal (ℕ-discrete (groupRowRefusal system lines) noRefusal)
+  groupRowAnswer-values = by-refusal (ℕ-discrete (groupRowRefusal setup lines) noRefusal)
     where
-      by-refusal : Dec (groupRowRefusal system lines ≡ noRefusal)
-          → groupRowAnswer kind system lines .row .values ≡ groupValues kind system lines
+      by-refusal : Dec (groupRowRefusal setup lines ≡ noRefusal)
+          → groupRowAnswer kind setup lines .row .values ≡ groupValues kind setup lines
       by-refusal (yes e) = rw e
-      by-refusal (no f) = rw (ne-eqb (groupRowRefusal system lines) noRefusal f) (sym (refused-values f))
+      by-refusal (no f) = rw (ne-eqb (groupRowRefusal setup lines) noRefusal f) (sym (refused-values f))
 
 -- the hypotheses can be met: the last order, at lines as large as any that is taken
-largest-lines-accepted : groupRefusal 12 orderCount (tabulate lineCount (λ k. largestLine)) ≡ noRefusal
-unfolding groupRefusal isSystem isOrder anyOf tabulate
+largest-lines-accepted : groupRefusal (setupOf 12 edition2) orderCount (tabulate lineCount (λ k. largestLine)) ≡ noRefusal
+unfolding groupRefusal isSystem isEdition isOrder anyOf tabulate
 largest-lines-accepted = refl
 
 -- ---- the row of a window
 
 -- the values of a window's row have 32 bits
-pub windowRow-fits : (kind : Kind) (system : ℕ) (window : List ℤ) → ValuesFit (windowRow kind system window)
+pub windowRow-fits : (kind : Kind) (setup : Setup) (window : List ℤ) → ValuesFit (windowRow kind setup window)
 unfolding ValuesFit windowRow
-windowRow-fits kind system window = groupValues-le kind system (linesOf window)
+windowRow-fits kind setup window = groupValues-le kind setup (linesOf window)
 
-pub windowRow-system : (kind : Kind) (system : ℕ) (window : List ℤ) → windowRow kind system window .system ≡ system
+pub windowRow-setup : (kind : Kind) (setup : Setup) (window : List ℤ) → windowRow kind setup window .setup ≡ setup
 unfolding windowRow
-windowRow-system kind system window = refl
+windowRow-setup kind setup window = refl

@@ -1,4 +1,5 @@
 -- The theorems of the groups.
 pub mod Weights
 pub mod GroupSum
+pub mod GroupEditions
 pub mod Worked

@@ -17,19 +17,18 @@ use Rattle.spectrum.specs.Line.{lineCount}
 use Rattle.groups.specs.declared.Kind.{Kind}
 use Rattle.groups.specs.declared.Kind.the-variants.{Component, HarmonicGroup, HarmonicSubgroup, InterharmonicGroup, InterharmonicCentredSubgroup}
 use Rattle.groups.specs.declared.Span.{Span}
-use Rattle.groups.specs.Spans.{Weighted, spanOf, twiceWeightAt, weightsIn, weightsOf, weightedSum, linesTotal}
+use Rattle.groups.specs.Spans.{Weighted, spanOf, groupedAs, groupSpan, twiceWeightAt, weightsIn, weightsOf, totalTwiceWeight, largestTotal, weightedSum, linesTotal}
 use Rattle.rows.specs.Orders.{orderCount, isOrder}
 use Rattle.rows.specs.Systems.{isSystem}
+use Rattle.rows.specs.Setups.{isSetup}
+use Rattle.rows.specs.declared.Setup.{Setup}
 use Rattle.rows.proofs.Orders.{order-bounds}
 use Rattle.rows.proofs.Systems.{SystemBounds, system-bounds}
+use Rattle.rows.proofs.Setups.{setup-parts}
 
 -- a fact of the number of every line in a list of weights
 abbrev pub EveryLine : (ℕ → Type 0) → List Weighted → Type 0
 EveryLine P xs = Everywhere (λ x. P (x .line)) xs
-
--- twice the weights, added up
-abbrev pub totalTwiceWeight : List Weighted → ℕ
-totalTwiceWeight xs = sumOver (λ x. x .twiceWeight) xs
 
 -- ---- any list of weights
 
@@ -184,10 +183,6 @@ totalTwiceWeight-span span two = by-ends (span .«half_ends») refl
 
 -- ---- the spans of the kinds
 
--- no kind has more than twice the weights of a harmonic group at 12 cycles
-abbrev pub largestTotal : ℕ
-largestTotal = 24
-
 -- what the sum over a span rests on
 pub record SpanBounds (span : Span) : Type 0 where
   pub two-ends : TwoEnds span
@@ -219,19 +214,24 @@ spanOf-bounds kind n h e o = of-kind kind (system-bounds n e) (centre-bounds n h
     of-kind InterharmonicGroup s b = record { two-ends = λ half. omega arith; count-le = omega arith; end-le = omega arith }
     of-kind InterharmonicCentredSubgroup s b = record { two-ends = λ half. omega arith; count-le = omega arith; end-le = omega arith }
 
--- twice the weights of a kind add up to at most 24
-pub weightsOf-total-le : (kind : Kind) (n h : ℕ) → isSystem n ≡ true → isOrder h ≡ true
-    → totalTwiceWeight (weightsOf kind n h) ≤ largestTotal
-weightsOf-total-le kind n h e o =
-    let b = spanOf-bounds kind n h e o in
-    omega (arith, totalTwiceWeight-span (spanOf kind n h) (b .two-ends))
+-- the bounds hold for every kind, so for the one whose lines a group takes under its edition
+pub groupSpan-bounds : (kind : Kind) (setup : Setup) (h : ℕ) → isSetup setup ≡ true → isOrder h ≡ true → SpanBounds (groupSpan kind setup h)
+groupSpan-bounds kind setup h e o =
+    spanOf-bounds (groupedAs kind (setup .edition) h) (setup .system) h (setup-parts setup e .system-known) o
 
--- the lines of every kind are among the 512
-pub weightsOf-line-lt : (kind : Kind) (n h : ℕ) → isSystem n ≡ true → isOrder h ≡ true
-    → EveryLine (λ k. k < lineCount) (weightsOf kind n h)
-weightsOf-line-lt kind n h e o =
-    let b = spanOf-bounds kind n h e o in
-    let span = spanOf kind n h in
+-- twice the weights of a group add up to at most 24
+pub weightsOf-total-le : (kind : Kind) (setup : Setup) (h : ℕ) → isSetup setup ≡ true → isOrder h ≡ true
+    → totalTwiceWeight (weightsOf kind setup h) ≤ largestTotal
+weightsOf-total-le kind setup h e o =
+    let b = groupSpan-bounds kind setup h e o in
+    omega (arith, totalTwiceWeight-span (groupSpan kind setup h) (b .two-ends))
+
+-- the lines of every group are among the 512
+pub weightsOf-line-lt : (kind : Kind) (setup : Setup) (h : ℕ) → isSetup setup ≡ true → isOrder h ≡ true
+    → EveryLine (λ k. k < lineCount) (weightsOf kind setup h)
+weightsOf-line-lt kind setup h e o =
+    let b = groupSpan-bounds kind setup h e o in
+    let span = groupSpan kind setup h in
     everywhere-imp _ _ (λ (x : Weighted) (before : x .line < span .first + span .count). omega arith)
     (weightsIn span)
     (weightsIn-line-lt span)

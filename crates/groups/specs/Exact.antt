@@ -4,15 +4,16 @@ use Prim.Native.Nat.{ℕ, _*_}
 use lib.IntN.{ℤ}
 use Rattle.algebra.specs.Fraction.{Fraction}
 use Rattle.sine.specs.ExactSine.{denominator}
+use Rattle.rows.specs.declared.Setup.{Setup}
 use Rattle.spectrum.specs.Exact.{exactLine, denominator-square-pos}
 use Rattle.groups.specs.declared.Kind.{Kind}
-use Rattle.groups.specs.Spans.{weightsOf, weightedSum}
+use Rattle.groups.specs.Spans.{Weighted, weightsOf, weightedSum}
 
--- the numerator of G, over the square of the exact sine's denominator
-unfoldable pub exactGroupNumerator : Kind → ℕ → ℕ → List ℤ → ℕ
-exactGroupNumerator kind system order window = weightedSum (exactLine window) (weightsOf kind system order)
+-- over some lines: the sum of 2×w×L of the exact lines, over the square of the exact sine's denominator
+unfoldable pub exactOver : List Weighted → List ℤ → Fraction
+exactOver xs window =
+    record { num = weightedSum (exactLine window) xs; den = denominator * denominator; den-pos = denominator-square-pos }
 
 -- G itself
-unfoldable pub exactGroup : Kind → ℕ → ℕ → List ℤ → Fraction
-exactGroup kind system order window =
-    record { num = exactGroupNumerator kind system order window; den = denominator * denominator; den-pos = denominator-square-pos }
+unfoldable pub exactGroup : Kind → Setup → ℕ → List ℤ → Fraction
+exactGroup kind setup order window = exactOver (weightsOf kind setup order) window

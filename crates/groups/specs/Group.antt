@@ -1,6 +1,6 @@
--- The group value, the row of them and what the calls answer (document 01, "Groups" and the refusal table's row "group value").
+-- The group value, the row of them and what the calls answer (document 01, "Groups" and the refusal table's row "group value"; document 02, card 7, for the edition).
 use mathlib.Core.Bool.{Bool, not}
-use mathlib.Core.List.{List, [], _∷_}
+use mathlib.Core.List.{List, [], _∷_, _++_}
 use Prim.Native.Nat.{ℕ, _+_}
 use lib.Dec.{eqb, ltb}
 use lib.IntN.{ℤ}
@@ -11,59 +11,64 @@ use Rattle.refusals.specs.Numbers.{wrongLineCount, lineTooLarge}
 use Rattle.refusals.specs.Answers.{firstFault, unlessRefused, answer}
 use Rattle.refusals.specs.declared.Answer.{Answer}
 use Rattle.rows.specs.Orders.{orderCount, orderCheck}
-use Rattle.rows.specs.Systems.{systemCheck}
+use Rattle.rows.specs.Setups.{setupChecks}
+use Rattle.rows.specs.declared.Setup.{Setup}
 use Rattle.rows.specs.Rows.{refusedRow}
 use Rattle.rows.specs.declared.Row.{Row}
 use Rattle.rows.specs.declared.RowAnswer.{RowAnswer}
 use Rattle.spectrum.specs.Line.{lineCount, largestLine, linesOf}
 use Rattle.groups.specs.declared.Kind.{Kind}
-use Rattle.groups.specs.Spans.{weightsOf, weightedSum}
+use Rattle.groups.specs.Spans.{Weighted, weightsOf, weightedSum}
 
 -- the line with a number, 0 past the end
 abbrev pub lineAt : List ℕ → ℕ → ℕ
 lineAt lines k = getD lines k 0
 
--- the whole part of the square root of the sum of 2×w×L
-unfoldable pub groupValue : Kind → ℕ → ℕ → List ℕ → ℕ
-groupValue kind system order lines = rootOf (weightedSum (lineAt lines) (weightsOf kind system order))
+-- the whole part of the square root of the sum of 2×w×L over some lines, L given by the line's number
+unfoldable pub valueOver : List Weighted → (ℕ → ℕ) → ℕ
+valueOver xs lineAt = rootOf (weightedSum lineAt xs)
+
+-- that of a group
+unfoldable pub groupValue : Kind → Setup → ℕ → List ℕ → ℕ
+groupValue kind setup order lines = valueOver (weightsOf kind setup order) (lineAt lines)
 
 -- 4 not 512 lines; 5 any of the 512 above 2^59
 abbrev pub lineChecks : List ℕ → List (Bool × ℕ)
 lineChecks lines =
     (not (eqb (length lines) lineCount), wrongLineCount) ∷ (anyOf (ltb largestLine) lines, lineTooLarge) ∷ []
 
--- 1 system not 10 or 12; 6 order outside 1..40; 4; 5
-abbrev pub groupChecks : ℕ → ℕ → List ℕ → List (Bool × ℕ)
-groupChecks system order lines = systemCheck system ∷ orderCheck order ∷ lineChecks lines
+-- 1 system not 10 or 12; 19 edition not 0 or 1; 6 order outside 1..40; 4; 5
+abbrev pub groupChecks : Setup → ℕ → List ℕ → List (Bool × ℕ)
+groupChecks setup order lines = setupChecks setup ++ orderCheck order ∷ lineChecks lines
 
-unfoldable pub groupRefusal : ℕ → ℕ → List ℕ → ℕ
-groupRefusal system order lines = firstFault (groupChecks system order lines)
+unfoldable pub groupRefusal : Setup → ℕ → List ℕ → ℕ
+groupRefusal setup order lines = firstFault (groupChecks setup order lines)
 
-unfoldable pub groupAnswer : Kind → ℕ → ℕ → List ℕ → Answer
-groupAnswer kind system order lines = answer (groupRefusal system order lines) (groupValue kind system order lines)
+unfoldable pub groupAnswer : Kind → Setup → ℕ → List ℕ → Answer
+groupAnswer kind setup order lines = answer (groupRefusal setup order lines) (groupValue kind setup order lines)
 
 -- the values that are answered for the orders 1..40, at the places 0..39: those of a row
-unfoldable pub groupValues : Kind → ℕ → List ℕ → List ℕ
-groupValues kind system lines = tabulate orderCount (λ i. groupAnswer kind system (i + 1) lines .value)
+unfoldable pub groupValues : Kind → Setup → List ℕ → List ℕ
+groupValues kind setup lines = tabulate orderCount (λ i. groupAnswer kind setup (i + 1) lines .value)
 
--- all of them in one call, which is asked for no order: 1; 4; 5
-abbrev pub groupRowChecks : ℕ → List ℕ → List (Bool × ℕ)
-groupRowChecks system lines = systemCheck system ∷ lineChecks lines
+-- all of them in one call, which is asked for no order: 1; 19; 4; 5
+abbrev pub groupRowChecks : Setup → List ℕ → List (Bool × ℕ)
+groupRowChecks setup lines = setupChecks setup ++ lineChecks lines
 
-unfoldable pub groupRowRefusal : ℕ → List ℕ → ℕ
-groupRowRefusal system lines = firstFault (groupRowChecks system lines)
+unfoldable pub groupRowRefusal : Setup → List ℕ → ℕ
+groupRowRefusal setup lines = firstFault (groupRowChecks setup lines)
 
-unfoldable pub groupRowAnswer : Kind → ℕ → List ℕ → RowAnswer
-groupRowAnswer kind system lines =
+unfoldable pub groupRowAnswer : Kind → Setup → List ℕ → RowAnswer
+groupRowAnswer kind setup lines =
     record {
-      refusal = groupRowRefusal system lines;
+      refusal = groupRowRefusal setup lines;
       row =
           unlessRefused
-          (groupRowRefusal system lines)
-          (record { system = system; values = groupValues kind system lines })
+          (groupRowRefusal setup lines)
+          (record { setup = setup; values = groupValues kind setup lines })
           refusedRow;
     }
 
 -- the row of a kind that is worked from a window
-unfoldable pub windowRow : Kind → ℕ → List ℤ → Row
-windowRow kind system window = record { system = system; values = groupValues kind system (linesOf window) }
+unfoldable pub windowRow : Kind → Setup → List ℤ → Row
+windowRow kind setup window = record { setup = setup; values = groupValues kind setup (linesOf window) }

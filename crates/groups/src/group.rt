@@ -1,5 +1,6 @@
-// The group value of a kind, a system and an order over the 512 lines of a window, and the row of all orders.
+// The group value of a kind, a setup and an order over the 512 lines of a window, and the row of all orders.
 use crate::Kind;
+use crate::spans::grouped_as;
 use crate::spans::span_of;
 use crate::spans::span_sum;
 use integers::square_root::root;
@@ -8,15 +9,15 @@ use refusals::Answer;
 use refusals::LINE_TOO_LARGE;
 use refusals::NO_REFUSAL;
 use refusals::ORDER_OUT_OF_RANGE;
-use refusals::UNKNOWN_SYSTEM;
 use refusals::WRONG_LINE_COUNT;
 use refusals::fault_or;
 use rows::ORDER_COUNT;
-use rows::REFUSED_SYSTEM;
 use rows::Row;
 use rows::RowAnswer;
+use rows::Setup;
 use rows::is_order;
-use rows::is_system;
+use rows::refused_row;
+use rows::setup_fault_or;
 use spectrum::LINE_COUNT;
 ghost use mathlib.Core.Path.{_≡_};
 ghost use Rattle.refusals.specs.Numbers.{noRefusal};
@@ -38,74 +39,71 @@ fn line_refusal(lines: &[u64]) -> u32
 }
 
 // The refusal table's row "group value".
-fn group_refusal(system: u32, order: u32, lines: &[u64]) -> u32
-    ensures { λ r. ⌜ r ≡ groupRefusal system order (now (lines .entry)) ⌝ }
+fn group_refusal(setup: Setup, order: u32, lines: &[u64]) -> u32
+    ensures { λ r. ⌜ r ≡ groupRefusal setup order (now (lines .entry)) ⌝ }
 {
-    fault_or(
-        !is_system(system),
-        UNKNOWN_SYSTEM,
-        fault_or(!is_order(order), ORDER_OUT_OF_RANGE, line_refusal(lines)),
-    )
+    let rest = fault_or(!is_order(order), ORDER_OUT_OF_RANGE, line_refusal(lines));
+    setup_fault_or(setup, rest)
 }
 
 // The same for all orders at once.
-fn group_row_refusal(system: u32, lines: &[u64]) -> u32
-    ensures { λ r. ⌜ r ≡ groupRowRefusal system (now (lines .entry)) ⌝ }
+fn group_row_refusal(setup: Setup, lines: &[u64]) -> u32
+    ensures { λ r. ⌜ r ≡ groupRowRefusal setup (now (lines .entry)) ⌝ }
 {
-    fault_or(!is_system(system), UNKNOWN_SYSTEM, line_refusal(lines))
+    setup_fault_or(setup, line_refusal(lines))
 }
 
 // The whole part of the square root of the sum of 2×w×L, for a call that is not refused.
-fn value_of(kind: Kind, system: u32, order: u32, lines: &[u64]) -> u32
-    requires { ⌜ groupRefusal system order (now lines) ≡ noRefusal ⌝ }
-    ensures { λ r. ⌜ r ≡ groupValue kind system order (now (lines .entry)) ⌝ }
+fn value_of(kind: Kind, setup: Setup, order: u32, lines: &[u64]) -> u32
+    requires { ⌜ groupRefusal setup order (now lines) ≡ noRefusal ⌝ }
+    ensures { λ r. ⌜ r ≡ groupValue kind setup order (now (lines .entry)) ⌝ }
 {
-    root(span_sum(lines, span_of(kind, system, order)))
+    let taken = grouped_as(kind, setup.edition, order);
+    root(span_sum(lines, span_of(taken, setup.system, order)))
 }
 
 // The group value of an order, or the refusal.
-pub fn group_value(kind: Kind, system: u32, order: u32, lines: &[u64]) -> Answer
-    ensures { λ r. ⌜ r ≡ groupAnswer kind system order (now (lines .entry)) ⌝ }
+pub fn group_value(kind: Kind, setup: Setup, order: u32, lines: &[u64]) -> Answer
+    ensures { λ r. ⌜ r ≡ groupAnswer kind setup order (now (lines .entry)) ⌝ }
 {
-    let refusal = group_refusal(system, order, lines);
+    let refusal = group_refusal(setup, order, lines);
     if refusal != NO_REFUSAL {
         return Answer { refusal, value: 0 };
     }
     Answer {
         refusal,
-        value: value_of(kind, system, order, lines) as u64,
+        value: value_of(kind, setup, order, lines) as u64,
     }
 }
 
 // The values of the orders 1..40, for lines that are not refused.
-fn values_of(kind: Kind, system: u32, lines: &[u64]) -> [u32; ORDER_COUNT]
-    requires { ⌜ groupRowRefusal system (now lines) ≡ noRefusal ⌝ }
-    ensures { λ r. ⌜ r ≡ groupValues kind system (now (lines .entry)) ⌝ }
+fn values_of(kind: Kind, setup: Setup, lines: &[u64]) -> [u32; ORDER_COUNT]
+    requires { ⌜ groupRowRefusal setup (now lines) ≡ noRefusal ⌝ }
+    ensures { λ r. ⌜ r ≡ groupValues kind setup (now (lines .entry)) ⌝ }
 {
     let mut values = [0; ORDER_COUNT];
     let mut i = 0;
     while i < ORDER_COUNT {
-        values[i] = value_of(kind, system, i as u32 + 1, lines);
+        values[i] = value_of(kind, setup, i as u32 + 1, lines);
         i += 1;
     }
     values
 }
 
 // The row of the group values of the orders 1..40, or the refusal. The lines are looked over once.
-pub fn group_row(kind: Kind, system: u32, lines: &[u64]) -> RowAnswer
-    ensures { λ r. ⌜ r ≡ groupRowAnswer kind system (now (lines .entry)) ⌝ }
+pub fn group_row(kind: Kind, setup: Setup, lines: &[u64]) -> RowAnswer
+    ensures { λ r. ⌜ r ≡ groupRowAnswer kind setup (now (lines .entry)) ⌝ }
 {
-    let refusal = group_row_refusal(system, lines);
+    let refusal = group_row_refusal(setup, lines);
     if refusal != NO_REFUSAL {
-        let row = Row {
-            system: REFUSED_SYSTEM,
-            values: [0; ORDER_COUNT],
+        return RowAnswer {
+            refusal,
+            row: refused_row(),
         };
-        return RowAnswer { refusal, row };
     }
     let row = Row {
-        system,
-        values: values_of(kind, system, lines),
+        setup,
+        values: values_of(kind, setup, lines),
     };
     RowAnswer { refusal, row }
 }

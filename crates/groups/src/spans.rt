@@ -1,14 +1,34 @@
 // The span of lines of a group, and the sum over a span.
 use crate::Kind;
 use crate::Span;
+use rows::EDITION_A1;
 ghost use mathlib.Core.Bool.{true};
 ghost use mathlib.Core.Path.{_≡_};
 ghost use Prim.Native.Nat.{_+_, _^_, _≤_, _<_};
 ghost use lib.ListN.{length};
 ghost use Rattle.rows.specs.Orders.{isOrder};
 ghost use Rattle.rows.specs.Systems.{isSystem};
-ghost use Rattle.groups.specs.Spans.{spanOf, weightsIn, weightedSum, linesTotal};
+ghost use Rattle.groups.specs.Spans.{spanOf, groupedAs, weightsIn, weightedSum, linesTotal};
 ghost use Rattle.groups.specs.Group.{lineAt};
+
+// The kind whose lines a group takes: under A1 the harmonic group of order 1 is its component alone.
+pub(crate) fn grouped_as(kind: Kind, edition: u32, order: u32) -> Kind
+    ensures { λ r. ⌜ r ≡ groupedAs kind edition order ⌝ }
+{
+    match kind {
+        Kind::HarmonicGroup => {
+            if (edition == EDITION_A1) & (order == 1) {
+                Kind::Component
+            } else {
+                Kind::HarmonicGroup
+            }
+        }
+        Kind::Component => Kind::Component,
+        Kind::HarmonicSubgroup => Kind::HarmonicSubgroup,
+        Kind::InterharmonicGroup => Kind::InterharmonicGroup,
+        Kind::InterharmonicCentredSubgroup => Kind::InterharmonicCentredSubgroup,
+    }
+}
 
 // The lines of a kind, of a system and an order that are known.
 pub(crate) fn span_of(kind: Kind, system: u32, order: u32) -> Span

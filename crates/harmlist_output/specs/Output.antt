@@ -9,15 +9,15 @@ use Rattle.listing.specs.RefusalLine.{refusalLine}
 use Rattle.groups.specs.declared.Kind.the-variants.{HarmonicGroup, HarmonicSubgroup}
 use Rattle.groups.specs.Group.{windowRow}
 use Rattle.recordings.specs.InputRefusal.{inputRefusal}
-use Rattle.recordings.specs.Windows.{systemIn, windowIn, windowCount, recordIn}
+use Rattle.recordings.specs.Windows.{setupIn, windowIn, windowCount, recordIn}
 
 -- "Group and subgroup are the last window's"
 unfoldable pub listingFor : List ℕ → List ℕ
 listingFor text =
     let last = windowIn text (windowCount text - 1) in
     listingText
-    (windowRow HarmonicGroup (systemIn text) last .values)
-    (windowRow HarmonicSubgroup (systemIn text) last .values)
+    (windowRow HarmonicGroup (setupIn text) last .values)
+    (windowRow HarmonicSubgroup (setupIn text) last .values)
     (recordIn text (windowCount text) .smoothed)
 
 -- all that harmlist writes: the listing, "or only one line"

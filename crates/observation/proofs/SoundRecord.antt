@@ -6,14 +6,16 @@ use mathlib.Core.List.{List, [], _∷_}
 use Prim.Native.Nat.{ℕ, _+_, _*_, _<_, _≤_}
 use native.Mathlib.Nat.{max-le}
 use native.Mathlib.Omega.{arith}
-use borrow.Author.Tests.{eqb-true, eq-eqb, ne-eqb, leb-true, leb-false, le-leb, not-false}
+use borrow.Author.Tests.{eqb-true, ne-eqb, leb-true, leb-false, le-leb, not-false}
 use lib.Dec.{leb}
 use lib.ListN.{getD}
 use Rattle.algebra.specs.Lists.{anyOf}
 use Rattle.algebra.proofs.Tests.{allTrue-at}
-use Rattle.rows.specs.Systems.{isSystem}
+use Rattle.rows.specs.Setups.{isSetup}
+use Rattle.rows.specs.declared.Setup.{Setup}
+use Rattle.rows.proofs.Setups.{setup-parts, isSetup-known, sameSetup-eq, sameSetup-self}
 use Rattle.rows.specs.Orders.{orderCount}
-use Rattle.refusals.specs.Numbers.{noRefusal, unknownSystem, unsoundRecord, otherSystem, recordFull}
+use Rattle.refusals.specs.Numbers.{noRefusal, unknownSystem, unknownEdition, unsoundRecord, otherSetup, recordFull}
 use Rattle.refusals.specs.Answers.{firstFault}
 use Rattle.refusals.proofs.Answers.{no-fault, no-faults, unlessRefused-accepted}
 use Rattle.rows.specs.declared.Row.{Row}
@@ -29,7 +31,7 @@ use Rattle.observation.proofs.NoneAbove.{getD-le-of-none-above, none-ab
 use Rattle.observation.proofs.Smoothed.{smoothed-next-le}
 
 pub record SoundParts (o : Observation) : Type 0 where
-  pub system-known : isSystem (o .system) ≡ true
+  pub setup-known : isSetup (o .setup) ≡ true
   pub windows-le : o .windows ≤ mostWindows
   pub sum-le : (i : ℕ) → getD (o .sum) i 0 ≤ o .windows * largestValue
   pub peak-le : (i : ℕ) → getD (o .peak) i 0 ≤ largestValue
@@ -40,53 +42,55 @@ unfolding isSound
 sound-parts o e =
     let passed = allTrue-at (soundTests o) e in
     record {
-      system-known = passed 0;
+      setup-known = passed 0;
       windows-le = leb-true _ _ (passed 1);
       sum-le = λ i. getD-le-of-none-above _ _ i (passed 2);
       peak-le = λ i. getD-le-of-none-above _ _ i (passed 3);
       smoothed-le = λ i. getD-le-of-none-above _ _ i (passed 4);
     }
 
-pub empty-record-sound : (system : ℕ) → isSystem system ≡ true → isSound (emptyRecord system) ≡ true
+pub empty-record-sound : (setup : Setup) → isSetup setup ≡ true → isSound (emptyRecord setup) ≡ true
 unfolding isSound noneAbove allZero anyOf emptyRecord
-empty-record-sound system e = rw e
+empty-record-sound setup e = rw e
 
-pub fresh-of-known : (system : ℕ) → isSystem system ≡ true → freshAnswer system .observation ≡ emptyRecord system
+pub fresh-of-known : (setup : Setup) → isSetup setup ≡ true → freshAnswer setup .observation ≡ emptyRecord setup
 unfolding freshAnswer freshRefusal
-fresh-of-known system e = rw e
+fresh-of-known setup e =
+    let known = setup-parts setup e in
+    rw (known .system-known, known .edition-known)
 
--- a row that a book with this system and count accepts
-pub record AcceptedRow (system count : ℕ) (row : Row) : Type 0 where
-  pub system-known : isSystem (row .system) ≡ true
-  pub system-own : row .system ≡ system
+-- a row that a book with this setup and count accepts
+pub record AcceptedRow (setup : Setup) (count : ℕ) (row : Row) : Type 0 where
+  pub setup-known : isSetup (row .setup) ≡ true
+  pub setup-own : row .setup ≡ setup
   pub room : count < mostWindows
 
 pub accepted-row :
-    (system count : ℕ) (row : Row) → firstFault (rowChecks system count row) ≡ noRefusal → AcceptedRow system count row
+    (setup : Setup) (count : ℕ) (row : Row) → firstFault (rowChecks setup count row) ≡ noRefusal → AcceptedRow setup count row
 unfolding rowChecks
-accepted-row system count row e =
-    let passed = no-faults (rowChecks system count row) refl e in
+accepted-row setup count row e =
+    let passed = no-faults (rowChecks setup count row) refl e in
     record {
-      system-known = not-false _ (passed unknownSystem);
-      system-own = eqb-true _ _ (not-false _ (passed otherSystem));
+      setup-known = isSetup-known _ (not-false _ (passed unknownSystem)) (not-false _ (passed unknownEdition));
+      setup-own = sameSetup-eq _ _ (not-false _ (passed otherSetup));
       room = leb-false _ _ (passed recordFull);
     }
 
 -- the same of the book's test
-pub accepts-row : (system count : ℕ) (row : Row) → accepts system count row ≡ true → AcceptedRow system count row
+pub accepts-row : (setup : Setup) (count : ℕ) (row : Row) → accepts setup count row ≡ true → AcceptedRow setup count row
 unfolding accepts
-accepts-row system count row e = accepted-row system count row (eqb-true _ _ e)
+accepts-row setup count row e = accepted-row setup count row (eqb-true _ _ e)
 
 -- a call that is not refused: its record is sound, and accepts the row
 pub record AcceptedCall (o : Observation) (row : Row) : Type 0 where
   pub sound : isSound o ≡ true
-  pub row-accepted : AcceptedRow (o .system) (o .windows) row
+  pub row-accepted : AcceptedRow (o .setup) (o .windows) row
 
 pub accepted-call : (o : Observation) (row : Row) → addRowRefusal o row ≡ noRefusal → AcceptedCall o row
 unfolding addRowRefusal
 accepted-call o row e =
     let passed = no-fault (not (isSound o)) unsoundRecord _ (omega arith) e in
-    record { sound = not-false _ (passed .0); row-accepted = accepted-row (o .system) (o .windows) row (passed .1) }
+    record { sound = not-false _ (passed .0); row-accepted = accepted-row (o .setup) (o .windows) row (passed .1) }
 
 pub with-row-sound :
     (o : Observation) (row : Row) → isSound o ≡ true → o .windows < mostWindows → ValuesFit row →
@@ -97,7 +101,7 @@ with-row-sound o row sound room fits =
     let next : (i : ℕ) → smoothedNext reported (bookAt o i) (getD (row .values) i 0) ≤ largestValue =
     λ i. smoothed-next-le largestValue (bookAt o i) _ (fits i) (parts .smoothed-le i) in
     rw (
-      parts .system-known,
+      parts .setup-known,
       le-leb (o .windows + 1) mostWindows (omega arith),
       none-above-tabulate ((o .windows + 1) * largestValue) orderCount (λ i. nextBook o row i .sum)
           (λ i l. omega (arith, next i, parts .sum-le i)),
@@ -110,16 +114,18 @@ with-row-sound o row sound room fits =
 -- a sound record is refused a row by the row's own checks alone
 addRowAnswer-sound :
     (o : Observation) (row : Row) → isSound o ≡ true →
-    addRowAnswer o row .observation ≡ cond (accepts (o .system) (o .windows) row) (withRow o row) o
+    addRowAnswer o row .observation ≡ cond (accepts (o .setup) (o .windows) row) (withRow o row) o
 unfolding addRowAnswer addRowRefusal accepts
 addRowAnswer-sound o row sound = rw sound
 
--- and a row of its own system only where it is full
+-- and a row of its own setup only where it is full
 pub addRowRefusal-own :
-    (o : Observation) (row : Row) → isSound o ≡ true → row .system ≡ o .system →
+    (o : Observation) (row : Row) → isSound o ≡ true → row .setup ≡ o .setup →
     addRowRefusal o row ≡ cond (leb mostWindows (o .windows)) recordFull noRefusal
 unfolding addRowRefusal rowChecks
-addRowRefusal-own o row sound own = rw (sound, own, sound-parts o sound .system-known, eq-eqb (o .system) (o .system) refl)
+addRowRefusal-own o row sound own =
+    let known = setup-parts (o .setup) (sound-parts o sound .setup-known) in
+    rw (sound, own, known .system-known, known .edition-known, sameSetup-self (o .setup))
 
 -- the record that an accepted call returns, and the one that a refused call returns
 pub addRowAnswer-accepted : (o : Observation) (row : Row) → addRowRefusal o row ≡ noRefusal → addRowAnswer o row .observation ≡ withRow o row
@@ -129,11 +135,11 @@ addRowAnswer-accepted o row e = unlessRefused-accepted _ _ _ e
 -- a call feeds the books of a sound record, or changes nothing where they do not accept the row
 pub by-acceptance :
     (P : Observation → Type 0) (o : Observation) (row : Row) → isSound o ≡ true →
-    (accepts (o .system) (o .windows) row ≡ true → P (withRow o row)) →
-    (accepts (o .system) (o .windows) row ≡ false → P o) →
+    (accepts (o .setup) (o .windows) row ≡ true → P (withRow o row)) →
+    (accepts (o .setup) (o .windows) row ≡ false → P o) →
     P (addRowAnswer o row .observation)
 by-acceptance P o row sound taken left =
-    rw (addRowAnswer-sound o row sound) (either (accepts (o .system) (o .windows) row) taken left)
+    rw (addRowAnswer-sound o row sound) (either (accepts (o .setup) (o .windows) row) taken left)
   where
     either : (accepted : Bool) → (accepted ≡ true → P (withRow o row)) → (accepted ≡ false → P o) → P (cond accepted (withRow o row) o)
     either true a b = a refl
@@ -141,20 +147,20 @@ by-acceptance P o row sound taken left =
 
 -- a call leaves a sound record sound, and leaves the later rows what they were to the record
 pub answer-sound :
-    (o : Observation) (row : Row) (rows : List Row) → isSound o ≡ true → AcceptedFit (o .system) (o .windows) (row ∷ rows) →
+    (o : Observation) (row : Row) (rows : List Row) → isSound o ≡ true → AcceptedFit (o .setup) (o .windows) (row ∷ rows) →
     let after = addRowAnswer o row .observation in
-    (isSound after ≡ true) × AcceptedFit (after .system) (after .windows) rows
+    (isSound after ≡ true) × AcceptedFit (after .setup) (after .windows) rows
 unfolding EachAccepted withRow
 answer-sound o row rows sound fits =
-    by-acceptance (λ after. (isSound after ≡ true) × AcceptedFit (after .system) (after .windows) rows) o row sound
+    by-acceptance (λ after. (isSound after ≡ true) × AcceptedFit (after .setup) (after .windows) rows) o row sound
     (λ e.
-    let both : ValuesFit row × AcceptedFit (o .system) (o .windows + 1) rows = rw e at fits in
-    (with-row-sound o row sound (accepts-row (o .system) (o .windows) row e .room) (both .0), both .1))
+    let both : ValuesFit row × AcceptedFit (o .setup) (o .windows + 1) rows = rw e at fits in
+    (with-row-sound o row sound (accepts-row (o .setup) (o .windows) row e .room) (both .0), both .1))
     (λ e. (sound, rw e at fits))
 
 -- so the record after a list of calls is sound
 pub record-after-sound :
-    (o : Observation) (rows : List Row) → isSound o ≡ true → AcceptedFit (o .system) (o .windows) rows → isSound (recordAfter o rows) ≡ true
+    (o : Observation) (rows : List Row) → isSound o ≡ true → AcceptedFit (o .setup) (o .windows) rows → isSound (recordAfter o rows) ≡ true
 unfolding recordAfter
 record-after-sound o [] sound fits = sound
 record-after-sound o (row ∷ rows) sound fits =
@@ -162,7 +168,7 @@ record-after-sound o (row ∷ rows) sound fits =
     record-after-sound (addRowAnswer o row .observation) rows (next .0) (next .1)
 
 pub fresh-record-after-sound :
-    (system : ℕ) (rows : List Row) → isSystem system ≡ true → AcceptedFit system 0 rows → isSound (recordAfter (freshAnswer system .observation) rows) ≡ true
+    (setup : Setup) (rows : List Row) → isSetup setup ≡ true → AcceptedFit setup 0 rows → isSound (recordAfter (freshAnswer setup .observation) rows) ≡ true
 unfolding emptyRecord
-fresh-record-after-sound system rows known fits =
-    rw (fresh-of-known system known) (record-after-sound (emptyRecord system) rows (empty-record-sound system known) fits)
+fresh-record-after-sound setup rows known fits =
+    rw (fresh-of-known setup known) (record-after-sound (emptyRecord setup) rows (empty-record-sound setup known) fits)

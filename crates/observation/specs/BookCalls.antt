@@ -8,14 +8,15 @@ use lib.ListN.{getD}
 use Rattle.refusals.specs.Numbers.{noRefusal}
 use Rattle.refusals.specs.Answers.{firstFault}
 use Rattle.rows.specs.declared.Row.{Row}
+use Rattle.rows.specs.declared.Setup.{Setup}
 use Rattle.observation.specs.Book.{Numbers, Book, bookStep}
 use Rattle.observation.specs.Smoothing.{reported}
 use Rattle.rows.specs.Rows.{ValuesFit}
 use Rattle.observation.specs.Calls.{rowChecks}
 
--- a row that a book with this system and count accepts: the refusal table's "add row" doesn't turn it away
-unfoldable pub accepts : ℕ → ℕ → Row → Bool
-accepts system count row = eqb (firstFault (rowChecks system count row)) noRefusal
+-- a row that a book with this setup and count accepts: the refusal table's "add row" doesn't turn it away
+unfoldable pub accepts : Setup → ℕ → Row → Bool
+accepts setup count row = eqb (firstFault (rowChecks setup count row)) noRefusal
 
 -- each call of a list whose row a book with this count accepts meets a condition
 module _ {A : Type 0} (rowOf : A → Row) (condition : A → Type 0) (taken : ℕ → Row → Bool) where
@@ -47,6 +48,6 @@ ownValues read rows = map (λ row. record { row = row; value = read row }) rows
 abbrev pub valueAt : ℕ → Row → ℕ
 valueAt i row = getD (row .values) i 0
 
--- each row that a book with this system and count accepts holds such values
-abbrev pub AcceptedFit : ℕ → ℕ → List Row → Type 0
-AcceptedFit system = EachAccepted (λ row. row) ValuesFit (accepts system)
+-- each row that a book with this setup and count accepts holds such values
+abbrev pub AcceptedFit : Setup → ℕ → List Row → Type 0
+AcceptedFit setup = EachAccepted (λ row. row) ValuesFit (accepts setup)

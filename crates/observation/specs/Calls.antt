@@ -1,13 +1,14 @@
--- What the calls `fresh_record` and `add_row` answer (document 01, "The observation record" and the refusal table's rows of these names).
+-- What the calls `fresh_record` and `add_row` answer (document 01, "The observation record" and the refusal table's rows of these names; document 02, card 7, for the edition).
 use mathlib.Core.Bool.{Bool, not}
-use mathlib.Core.List.{List, [], _∷_}
+use mathlib.Core.List.{List, [], _∷_, _++_}
 use Prim.Native.Nat.{ℕ, _+_}
-use lib.Dec.{eqb, leb}
+use lib.Dec.{leb}
 use lib.ListN.{getD, replicate}
 use Rattle.algebra.specs.Lists.{tabulate}
 use Rattle.rows.specs.Orders.{orderCount}
-use Rattle.rows.specs.Systems.{systemCheck, refusedSystem}
-use Rattle.refusals.specs.Numbers.{unsoundRecord, otherSystem, recordFull}
+use Rattle.rows.specs.Setups.{setupChecks, sameSetup, refusedSetup}
+use Rattle.rows.specs.declared.Setup.{Setup}
+use Rattle.refusals.specs.Numbers.{unsoundRecord, otherSetup, recordFull}
 use Rattle.refusals.specs.Answers.{firstFault, unlessRefused}
 use Rattle.rows.specs.declared.Row.{Row}
 use Rattle.observation.specs.declared.Observation.{Observation}
@@ -16,33 +17,33 @@ use Rattle.observation.specs.Book.{Book, bookStep}
 use Rattle.observation.specs.Smoothing.{reported}
 use Rattle.observation.specs.Soundness.{isSound, mostWindows}
 
--- a record of a system with zeros
-unfoldable pub emptyRecord : ℕ → Observation
-emptyRecord system =
+-- a record of a setup with zeros
+unfoldable pub emptyRecord : Setup → Observation
+emptyRecord setup =
     record {
-      system = system;
+      setup = setup;
       windows = 0;
       smoothed = replicate orderCount 0;
       sum = replicate orderCount 0;
       peak = replicate orderCount 0;
     }
 
--- a refused fresh record: system 10, zeros
+-- a refused fresh record: system 10, edition 2, zeros
 abbrev pub refusedRecord : Observation
-refusedRecord = emptyRecord refusedSystem
+refusedRecord = emptyRecord refusedSetup
 
--- 1 system not 10 or 12
-abbrev pub freshChecks : ℕ → List (Bool × ℕ)
-freshChecks system = systemCheck system ∷ []
+-- 1 system not 10 or 12; 19 edition not 0 or 1
+abbrev pub freshChecks : Setup → List (Bool × ℕ)
+freshChecks setup = setupChecks setup
 
-unfoldable pub freshRefusal : ℕ → ℕ
-freshRefusal system = firstFault (freshChecks system)
+unfoldable pub freshRefusal : Setup → ℕ
+freshRefusal setup = firstFault (freshChecks setup)
 
-unfoldable pub freshAnswer : ℕ → RecordAnswer
-freshAnswer system =
+unfoldable pub freshAnswer : Setup → RecordAnswer
+freshAnswer setup =
     record {
-      refusal = freshRefusal system;
-      observation = unlessRefused (freshRefusal system) (emptyRecord system) refusedRecord;
+      refusal = freshRefusal setup;
+      observation = unlessRefused (freshRefusal setup) (emptyRecord setup) refusedRecord;
     }
 
 -- the reported book of the order at a place of the record
@@ -63,24 +64,24 @@ nextBook o row i = bookStep reported (bookAt o i) (getD (row .values) i 0)
 unfoldable pub withRow : Observation → Row → Observation
 withRow o row =
     record {
-      system = o .system;
+      setup = o .setup;
       windows = o .windows + 1;
       smoothed = tabulate orderCount (λ i. nextBook o row i .smoothed);
       sum = tabulate orderCount (λ i. nextBook o row i .sum);
       peak = tabulate orderCount (λ i. nextBook o row i .peak);
     }
 
--- what a book with this system and count turns away: 1 the row's system not 10 or 12; 8 it differs from the record's; 9 45,000 windows held
-unfoldable pub rowChecks : ℕ → ℕ → Row → List (Bool × ℕ)
-rowChecks system count row =
-    systemCheck (row .system) ∷
-    (not (eqb (row .system) system), otherSystem) ∷
+-- what a book with this setup and count turns away: 1 the row's system not 10 or 12; 19 its edition not 0 or 1; 8 one of the two differs from the record's; 9 45,000 windows held
+unfoldable pub rowChecks : Setup → ℕ → Row → List (Bool × ℕ)
+rowChecks setup count row =
+    setupChecks (row .setup) ++
+    (not (sameSetup (row .setup) setup), otherSetup) ∷
     (leb mostWindows count, recordFull) ∷
     []
 
 -- 7 record not sound comes before these
 abbrev pub addRowChecks : Observation → Row → List (Bool × ℕ)
-addRowChecks o row = (not (isSound o), unsoundRecord) ∷ rowChecks (o .system) (o .windows) row
+addRowChecks o row = (not (isSound o), unsoundRecord) ∷ rowChecks (o .setup) (o .windows) row
 
 unfoldable pub addRowRefusal : Observation → Row → ℕ
 addRowRefusal o row = firstFault (addRowChecks o row)

@@ -1,11 +1,11 @@
--- Which records are sound (document 01, "The observation record").
+-- Which records are sound (document 01, "The observation record"; document 02, card 7, for the edition).
 use mathlib.Core.Bool.{Bool, not, _||_}
 use mathlib.Core.List.{List, [], _∷_}
 use Prim.Native.Nat.{ℕ, _*_}
 use lib.Dec.{eqb, leb, ltb}
 use Rattle.algebra.specs.Lists.{anyOf, allTrue}
 use Rattle.rows.specs.Rows.{largestValue}
-use Rattle.rows.specs.Systems.{isSystem}
+use Rattle.rows.specs.Setups.{isSetup}
 use Rattle.observation.specs.declared.Observation.{Observation}
 
 -- at most 45,000 windows, 2.5 hours
@@ -23,10 +23,10 @@ zeroTests o = noneAbove 0 (o .smoothed) ∷ noneAbove 0 (o .sum) ∷ noneAbove 0
 unfoldable pub allZero : Observation → Bool
 allZero o = allTrue (zeroTests o)
 
--- its system is 10 or 12, n is at most 45,000, no sum is above n×(2^32−1), no peak or smoothed value above 2^32−1, and n = 0 means zeros
+-- its system is 10 or 12 and its edition 0 or 1, n is at most 45,000, no sum is above n×(2^32−1), no peak or smoothed value above 2^32−1, and n = 0 means zeros
 abbrev pub soundTests : Observation → List Bool
 soundTests o =
-    isSystem (o .system) ∷
+    isSetup (o .setup) ∷
     leb (o .windows) mostWindows ∷
     noneAbove (o .windows * largestValue) (o .sum) ∷
     noneAbove largestValue (o .peak) ∷

@@ -6,25 +6,26 @@ use crate::book::book_step;
 use crate::soundness::MOST_WINDOWS;
 use crate::soundness::is_sound;
 use refusals::NO_REFUSAL;
-use refusals::OTHER_SYSTEM;
+use refusals::OTHER_SETUP;
 use refusals::RECORD_FULL;
-use refusals::UNKNOWN_SYSTEM;
 use refusals::UNSOUND_RECORD;
 use refusals::fault_or;
 use rows::ORDER_COUNT;
-use rows::REFUSED_SYSTEM;
 use rows::Row;
-use rows::is_system;
+use rows::Setup;
+use rows::refused_setup;
+use rows::same_setup;
+use rows::setup_fault_or;
 ghost use mathlib.Core.Path.{_≡_};
 ghost use Rattle.refusals.specs.Numbers.{noRefusal};
 ghost use Rattle.observation.specs.Calls.{emptyRecord, freshAnswer, withRow, addRowRefusal, addRowAnswer};
 
-// A record of a system with zeros.
-fn empty_record(system: u32) -> Observation
-    ensures { λ r. ⌜ r ≡ emptyRecord system ⌝ }
+// A record of a setup with zeros.
+fn empty_record(setup: Setup) -> Observation
+    ensures { λ r. ⌜ r ≡ emptyRecord setup ⌝ }
 {
     Observation {
-        system,
+        setup,
         windows: 0,
         smoothed: [0; ORDER_COUNT],
         sum: [0; ORDER_COUNT],
@@ -32,40 +33,34 @@ fn empty_record(system: u32) -> Observation
     }
 }
 
-// The record that a list of calls begins with. Refused: 1 unknown system.
-pub fn fresh_record(system: u32) -> RecordAnswer
-    ensures { λ r. ⌜ r ≡ freshAnswer system ⌝ }
+// The record that a list of calls begins with. Refused: 1 unknown system, 19 unknown edition.
+pub fn fresh_record(setup: Setup) -> RecordAnswer
+    ensures { λ r. ⌜ r ≡ freshAnswer setup ⌝ }
 {
-    let refusal = fault_or(!is_system(system), UNKNOWN_SYSTEM, NO_REFUSAL);
+    let refusal = setup_fault_or(setup, NO_REFUSAL);
     if refusal != NO_REFUSAL {
         return RecordAnswer {
             refusal,
-            observation: empty_record(REFUSED_SYSTEM),
+            observation: empty_record(refused_setup()),
         };
     }
     RecordAnswer {
         refusal,
-        observation: empty_record(system),
+        observation: empty_record(setup),
     }
 }
 
-// The checks of add_row, in order: 7 record not sound, 1 unknown system, 8 another system than the
-// record's, 9 record full.
+// The checks of add_row, in order: 7 record not sound, 1 unknown system, 19 unknown edition, 8 another
+// setup than the record's, 9 record full.
 fn add_row_refusal(observation: Observation, row: Row) -> u32
     ensures { λ r. ⌜ r ≡ addRowRefusal observation row ⌝ }
 {
-    let system = row.system;
-    let other = system != observation.system;
+    let setup = row.setup;
+    let other = !same_setup(setup, observation.setup);
     let full = MOST_WINDOWS <= observation.windows;
-    fault_or(
-        !is_sound(observation),
-        UNSOUND_RECORD,
-        fault_or(
-            !is_system(system),
-            UNKNOWN_SYSTEM,
-            fault_or(other, OTHER_SYSTEM, fault_or(full, RECORD_FULL, NO_REFUSAL)),
-        ),
-    )
+    let rest = fault_or(other, OTHER_SETUP, fault_or(full, RECORD_FULL, NO_REFUSAL));
+    let setup_and_rest = setup_fault_or(setup, rest);
+    fault_or(!is_sound(observation), UNSOUND_RECORD, setup_and_rest)
 }
 
 // The record with a row added: the book of each order takes its step.
@@ -96,8 +91,9 @@ fn with_row(observation: Observation, row: Row) -> Observation
         i += 1;
     }
     let windows = windows + 1;
+    let setup = observation.setup;
     Observation {
-        system: observation.system,
+        setup,
         windows,
         smoothed,
         sum,

@@ -8,13 +8,14 @@ pub use book::SMOOTHED_MARGIN;
 pub use calls::add_row;
 pub use calls::fresh_record;
 use rows::ORDER_COUNT;
+use rows::Setup;
 pub use soundness::MOST_WINDOWS;
 pub use soundness::is_sound;
 
 // Document 01's observation record. Any numbers may stand in it; which records are sound is said
 // in specs/Soundness.antt.
 pub struct Observation {
-    pub system: u32,
+    pub setup: Setup,
     pub windows: u32,
     pub smoothed: [u64; ORDER_COUNT],
     pub sum: [u64; ORDER_COUNT],
@@ -22,7 +23,7 @@ pub struct Observation {
 }
 
 // What a call for a record answers: NO_REFUSAL with the new record, or a refusal's number with the
-// record unchanged; where no record was handed in, with zeros of system 10.
+// record unchanged; where no record was handed in, with zeros of the refused setup.
 pub struct RecordAnswer {
     pub refusal: u32,
     pub observation: Observation,

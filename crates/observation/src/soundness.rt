@@ -2,7 +2,7 @@
 use crate::Observation;
 use lists::any_above;
 use rows::LARGEST_VALUE;
-use rows::is_system;
+use rows::is_setup;
 ghost use mathlib.Core.Path.{_≡_};
 ghost use Rattle.observation.specs.Soundness.{allZero, isSound};
 
@@ -16,13 +16,13 @@ fn all_zero(o: Observation) -> bool
     !any_above(&o.smoothed, 0) & !any_above(&o.sum, 0) & !any_above(&o.peak, 0)
 }
 
-// Its system is known, no number of it is too large for its count of windows, and no window means
+// Its setup is known, no number of it is too large for its count of windows, and no window means
 // zeros.
 pub fn is_sound(o: Observation) -> bool
     ensures { λ r. ⌜ r ≡ isSound o ⌝ }
 {
     let windows = o.windows;
-    is_system(o.system)
+    is_setup(o.setup)
         & (windows <= MOST_WINDOWS)
         & !any_above(&o.sum, windows as u64 * LARGEST_VALUE)
         & !any_above(&o.peak, LARGEST_VALUE)

@@ -9,14 +9,16 @@ use lib.IntN.{ℤ}
 use lib.ListN.{length}
 use Rattle.refusals.specs.Numbers.{noRefusal, shortWindow, sampleOutOfRange}
 use Rattle.refusals.specs.Answers.{firstFault}
-use Rattle.rows.specs.Systems.{isSystem}
+use Rattle.rows.specs.Setups.{isSetup}
+use Rattle.rows.specs.declared.Setup.{Setup}
+use Rattle.rows.proofs.Setups.{setup-parts}
 use Rattle.rows.specs.Rows.{refusedRow}
 use Rattle.rows.specs.declared.Row.{Row}
 use Rattle.spectrum.specs.Line.{lineCount, windowAt, linesOf}
 use Rattle.spectrum.specs.Spectrum.{shortCheck, rangeCheck, spectrumRefusal, spectrumExit}
 use Rattle.spectrum.proofs.Lines.{length-linesOf, no-line-too-large}
 use Rattle.groups.specs.declared.Kind.{Kind}
-use Rattle.groups.proofs.GroupSum.{windowRow-system}
+use Rattle.groups.proofs.GroupSum.{windowRow-setup}
 use Rattle.observation.specs.declared.Observation.{Observation}
 use Rattle.observation.specs.declared.RecordAnswer.{RecordAnswer}
 use Rattle.observation.specs.Soundness.{isSound}
@@ -35,38 +37,40 @@ spectrumRefusal-lent recording at = refl
 
 -- the lines of a window in range are never refused
 pub groupRowRefusal-window :
-    (system : ℕ) (recording : List ℤ) (at : ℕ) → isSystem system ≡ true → rangeCheck recording at .0 ≡ false →
-    groupRowRefusal system (linesOf (windowAt recording at)) ≡ noRefusal
+    (setup : Setup) (recording : List ℤ) (at : ℕ) → isSetup setup ≡ true → rangeCheck recording at .0 ≡ false →
+    groupRowRefusal setup (linesOf (windowAt recording at)) ≡ noRefusal
 unfolding groupRowRefusal
-groupRowRefusal-window system recording at known in-range =
+groupRowRefusal-window setup recording at known in-range =
     let window = windowAt recording at in
+    let parts = setup-parts setup known in
     rw (
-      known,
+      parts .system-known,
+      parts .edition-known,
       eq-eqb (length (linesOf window)) lineCount (length-linesOf window),
       no-line-too-large window in-range,
     )
 
-module _ (kind : Kind) (system : ℕ) (recording : List ℤ) (at : ℕ) where
-  rowCalls-short : shortCheck recording at .0 ≡ true → rowCalls kind system recording at ≡ record { refusal = shortWindow; row = refusedRow }
+module _ (kind : Kind) (setup : Setup) (recording : List ℤ) (at : ℕ) where
+  rowCalls-short : shortCheck recording at .0 ≡ true → rowCalls kind setup recording at ≡ record { refusal = shortWindow; row = refusedRow }
   unfolding rowCalls
   rowCalls-short short = rw (spectrumRefusal-lent recording at, short)
 
   rowCalls-out :
       shortCheck recording at .0 ≡ false → rangeCheck recording at .0 ≡ true →
-      rowCalls kind system recording at ≡ record { refusal = sampleOutOfRange; row = refusedRow }
+      rowCalls kind setup recording at ≡ record { refusal = sampleOutOfRange; row = refusedRow }
   unfolding rowCalls
   rowCalls-out whole out = rw (spectrumRefusal-lent recording at, whole, out)
 
   rowCalls-taken :
-      isSystem system ≡ true → shortCheck recording at .0 ≡ false → rangeCheck recording at .0 ≡ false →
-      rowCalls kind system recording at ≡ record { refusal = noRefusal; row = windowRow kind system (windowAt recording at) }
+      isSetup setup ≡ true → shortCheck recording at .0 ≡ false → rangeCheck recording at .0 ≡ false →
+      rowCalls kind setup recording at ≡ record { refusal = noRefusal; row = windowRow kind setup (windowAt recording at) }
   unfolding rowCalls spectrumExit groupRowAnswer windowRow
   rowCalls-taken known whole in-range =
-      rw (spectrumRefusal-lent recording at, whole, in-range, groupRowRefusal-window system recording at known in-range)
+      rw (spectrumRefusal-lent recording at, whole, in-range, groupRowRefusal-window setup recording at known in-range)
 
 module _ (kind : Kind) (recording : List ℤ) (at : ℕ) (o : Observation) (sound : isSound o ≡ true) where
   abbrev rowAdded : Row
-  rowAdded = windowRow kind (o .system) (windowAt recording at)
+  rowAdded = windowRow kind (o .setup) (windowAt recording at)
 
   -- what the calls answer, and the record that they leave where they are accepted
   pub record Answered (answer : RecordAnswer) : Type 0 where
@@ -81,14 +85,14 @@ module _ (kind : Kind) (recording : List ℤ) (at : ℕ) (o : Observation) (soun
           (short out : Bool) → shortCheck recording at .0 ≡ short → rangeCheck recording at .0 ≡ out →
           Answered (windowCalls kind recording at o)
       by-tests true out e f =
-          rw (rowCalls-short kind (o .system) recording at e)
+          rw (rowCalls-short kind (o .setup) recording at e)
           (record { refusal-is = rw e; record-is = λ none. absurd (omega arith) })
       by-tests false true e f =
-          rw (rowCalls-out kind (o .system) recording at e f)
+          rw (rowCalls-out kind (o .setup) recording at e f)
           (record { refusal-is = rw (e, f); record-is = λ none. absurd (omega arith) })
       by-tests false false e f =
-          rw (rowCalls-taken kind (o .system) recording at (sound-parts o sound .system-known) e f)
+          rw (rowCalls-taken kind (o .setup) recording at (sound-parts o sound .setup-known) e f)
           (record {
-            refusal-is = addRowRefusal-own o rowAdded sound (windowRow-system kind (o .system) _) ∙ rw (e, f);
+            refusal-is = addRowRefusal-own o rowAdded sound (windowRow-setup kind (o .setup) _) ∙ rw (e, f);
             record-is = λ none. refl;
           })

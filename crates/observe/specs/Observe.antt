@@ -8,7 +8,8 @@ use lib.IntN.{ℤ}
 use Rattle.algebra.specs.Lists.{tabulate}
 use Rattle.refusals.specs.Numbers.{recordFull}
 use Rattle.refusals.specs.Answers.{firstFault, unlessRefused}
-use Rattle.rows.specs.Systems.{systemCheck}
+use Rattle.rows.specs.Setups.{setupChecks}
+use Rattle.rows.specs.declared.Setup.{Setup}
 use Rattle.rows.specs.declared.Row.{Row}
 use Rattle.spectrum.specs.Line.{windowLength, windowAt}
 use Rattle.spectrum.specs.Spectrum.{shortCheck, rangeCheck}
@@ -24,33 +25,33 @@ abbrev pub windowStart : ℕ → ℕ → ℕ
 windowStart start i = start + windowLength * i
 
 -- the rows of the first windows
-unfoldable pub windowRows : Kind → ℕ → List ℤ → ℕ → ℕ → List Row
-windowRows kind system recording start count =
-    tabulate count (λ i. windowRow kind system (windowAt recording (windowStart start i)))
+unfoldable pub windowRows : Kind → Setup → List ℤ → ℕ → ℕ → List Row
+windowRows kind setup recording start count =
+    tabulate count (λ i. windowRow kind setup (windowAt recording (windowStart start i)))
 
 -- what the window that begins at a place is refused for, where so many windows are held: 2 and 3 of the row "spectrum", 9 of the row "add row".
--- The other checks of these rows and of the row "group value" find nothing: the buffer has 512 lines, a window in range leaves none above 2^59, and the row has the system of a sound record.
+-- The other checks of these rows and of the row "group value" find nothing: the buffer has 512 lines, a window in range leaves none above 2^59, and the row has the setup of a sound record.
 abbrev pub addWindowChecks : List ℤ → ℕ → ℕ → List (Bool × ℕ)
 addWindowChecks recording at held =
     shortCheck recording at ∷ rangeCheck recording at ∷ (leb mostWindows held, recordFull) ∷ []
 
--- 1 of the row "fresh record", then the checks of window 0, of window 1, ..
-unfoldable pub observeChecks : ℕ → List ℤ → ℕ → ℕ → List (Bool × ℕ)
-observeChecks system recording start zero = systemCheck system ∷ []
-observeChecks system recording start (suc i) =
-    observeChecks system recording start i ++ addWindowChecks recording (windowStart start i) i
+-- 1 and 19 of the row "fresh record", then the checks of window 0, of window 1, ..
+unfoldable pub observeChecks : Setup → List ℤ → ℕ → ℕ → List (Bool × ℕ)
+observeChecks setup recording start zero = setupChecks setup
+observeChecks setup recording start (suc i) =
+    observeChecks setup recording start i ++ addWindowChecks recording (windowStart start i) i
 
-unfoldable pub observeRefusal : ℕ → List ℤ → ℕ → ℕ → ℕ
-observeRefusal system recording start count = firstFault (observeChecks system recording start count)
+unfoldable pub observeRefusal : Setup → List ℤ → ℕ → ℕ → ℕ
+observeRefusal setup recording start count = firstFault (observeChecks setup recording start count)
 
--- a refusal answers as a refused fresh record does: system 10, zeros
-unfoldable pub observeAnswer : Kind → ℕ → List ℤ → ℕ → ℕ → RecordAnswer
-observeAnswer kind system recording start count =
+-- a refusal answers as a refused fresh record does: system 10, edition 2, zeros
+unfoldable pub observeAnswer : Kind → Setup → List ℤ → ℕ → ℕ → RecordAnswer
+observeAnswer kind setup recording start count =
     record {
-      refusal = observeRefusal system recording start count;
+      refusal = observeRefusal setup recording start count;
       observation =
           unlessRefused
-          (observeRefusal system recording start count)
-          (recordAfter (emptyRecord system) (windowRows kind system recording start count))
+          (observeRefusal setup recording start count)
+          (recordAfter (emptyRecord setup) (windowRows kind setup recording start count))
           refusedRecord;
     }

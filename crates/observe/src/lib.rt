@@ -7,10 +7,10 @@ use observation::RecordAnswer;
 use observation::add_row;
 use observation::fresh_record;
 use refusals::NO_REFUSAL;
-use rows::ORDER_COUNT;
-use rows::REFUSED_SYSTEM;
-use rows::Row;
 use rows::RowAnswer;
+use rows::Setup;
+use rows::refused_row;
+use rows::refused_setup;
 use spectrum::LINE_COUNT;
 use spectrum::WINDOW_LENGTH;
 use spectrum::spectrum;
@@ -20,26 +20,26 @@ ghost use Rattle.observe.specs.Observe.{observeAnswer};
 ghost use Rattle.observe.specs.Calls.{rowCalls, windowCalls};
 
 // The row of the window that begins at `at`.
-fn row_at(recording: &[i32], at: usize, system: u32, kind: Kind) -> RowAnswer
-    ensures { λ r. ⌜ r ≡ rowCalls kind system (now (recording .entry)) at ⌝ }
+fn row_at(recording: &[i32], at: usize, setup: Setup, kind: Kind) -> RowAnswer
+    ensures { λ r. ⌜ r ≡ rowCalls kind setup (now (recording .entry)) at ⌝ }
 {
     let mut lines = [0; LINE_COUNT];
     let refusal = spectrum(recording, at, &mut lines);
     if refusal != NO_REFUSAL {
-        let row = Row {
-            system: REFUSED_SYSTEM,
-            values: [0; ORDER_COUNT],
+        return RowAnswer {
+            refusal,
+            row: refused_row(),
         };
-        return RowAnswer { refusal, row };
     }
-    group_row(kind, system, &lines)
+    group_row(kind, setup, &lines)
 }
 
 // The record with that row added, or the refusal with the record unchanged.
 fn add_window(observation: Observation, recording: &[i32], at: usize, kind: Kind) -> RecordAnswer
     ensures { λ r. ⌜ r ≡ windowCalls kind (now (recording .entry)) at observation ⌝ }
 {
-    let answer = row_at(recording, at, observation.system, kind);
+    let setup = observation.setup;
+    let answer = row_at(recording, at, setup, kind);
     let refusal = answer.refusal;
     let row = answer.row;
     if refusal != NO_REFUSAL {
@@ -51,11 +51,11 @@ fn add_window(observation: Observation, recording: &[i32], at: usize, kind: Kind
     add_row(observation, row)
 }
 
-// A refusal with the record of a refused fresh_record: system 10, zeros.
+// A refusal with the record of a refused fresh_record.
 fn refused_record(refusal: u32) -> RecordAnswer
     ensures { λ r. ⌜ r ≡ record { refusal = refusal; observation = refusedRecord } ⌝ }
 {
-    let fresh = fresh_record(REFUSED_SYSTEM);
+    let fresh = fresh_record(refused_setup());
     let observation = fresh.observation;
     RecordAnswer {
         refusal,
@@ -64,18 +64,18 @@ fn refused_record(refusal: u32) -> RecordAnswer
 }
 
 // The record after `windows` windows back to back, the first of which begins at `start`, by the
-// groups of one kind. Refused: 1 unknown system; then window by window 2 fewer than 2,048 samples
-// from its start, 3 a sample out of range, 9 45,000 windows held.
+// groups of one kind. Refused: 1 unknown system, 19 unknown edition; then window by window 2 fewer
+// than 2,048 samples from its start, 3 a sample out of range, 9 45,000 windows held.
 pub fn observe(
     recording: &[i32],
     start: usize,
     windows: usize,
-    system: u32,
+    setup: Setup,
     kind: Kind,
 ) -> RecordAnswer
-    ensures { λ r. ⌜ r ≡ observeAnswer kind system (now (recording .entry)) start windows ⌝ }
+    ensures { λ r. ⌜ r ≡ observeAnswer kind setup (now (recording .entry)) start windows ⌝ }
 {
-    let fresh = fresh_record(system);
+    let fresh = fresh_record(setup);
     if fresh.refusal != NO_REFUSAL {
         return fresh;
     }

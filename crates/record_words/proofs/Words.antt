@@ -13,6 +13,8 @@ use Rattle.algebra.proofs.Lists.{getD-tabulate}
 use Rattle.rows.specs.Orders.{orderCount}
 use Rattle.rows.specs.Rows.{largestValue}
 use Rattle.rows.proofs.Systems.{system-bounds}
+use Rattle.rows.proofs.Editions.{edition-le}
+use Rattle.rows.proofs.Setups.{setup-parts}
 use Rattle.observation.specs.declared.Observation.{Observation}
 use Rattle.observation.specs.Soundness.{isSound}
 use Rattle.observation.proofs.SoundRecord.{sound-parts}
@@ -21,7 +23,7 @@ use Rattle.record_words.specs.Parts.{partsFrom, total}
 use Rattle.record_words.specs.Words.{recordParts, recordWords, smoothedPlace, partsOf, ofParts, wordsOf, recordOf, recordRead, Whole, wordsWith}
 use Rattle.record_words.proofs.Parts.{joined-length, partsFrom-joined, joined-partsFrom}
 
--- 122 words are those of the record that they hold
+-- 123 words are those of the record that they hold
 pub words-of-record : (words : List ℕ) → length words ≡ recordWords → wordsOf (recordOf words) ≡ words
 unfolding wordsOf recordOf ofParts partsOf partsFrom wordsFrom tabulate
 words-of-record words whole =
@@ -33,7 +35,7 @@ unfolding wordsOf recordOf Whole ofParts partsOf
 record-of-words o whole = rw (← whole, partsFrom-joined [] (partsOf o))
 
 -- its words are its parts, each put after those before it
-pub wordsOf-parts : (o : Observation) → (o .system ∷ o .windows ∷ []) ++ o .smoothed ++ o .sum ++ o .peak ≡ wordsOf o
+pub wordsOf-parts : (o : Observation) → (o .setup .system ∷ o .setup .edition ∷ o .windows ∷ []) ++ o .smoothed ++ o .sum ++ o .peak ≡ wordsOf o
 unfolding wordsOf partsOf joined
 wordsOf-parts o = simp (append-assoc, append-nil)
 
@@ -52,43 +54,53 @@ smoothed-word o i whole inside =
     sym (getD-tabulate orderCount (λ k. getD (wordsOf o) (smoothedPlace + k) 0) i 0 inside) ∙
     ap (λ (held : Observation). getD (held .smoothed) i 0) (record-of-words o whole)
 
--- 122 words after a record is put into them
+-- 123 words after a record is put into them
 pub wordsWith-whole : (o : Observation) (words : List ℕ) → length words ≡ recordWords → wordsWith o words ≡ wordsOf o
 unfolding wordsWith
 wordsWith-whole o words whole = rw (eq-eqb (length words) recordWords whole)
 
 -- ---- the record that is read of some words
 
--- the words of the system and of the count of windows
+-- the words of the system, the edition and the count of windows
 abbrev systemWord : List ℕ → ℕ
 systemWord words = getD (wordsFrom 0 1 words) 0 0
 
-abbrev windowsWord : List ℕ → ℕ
-windowsWord words = getD (wordsFrom 1 1 words) 0 0
+abbrev editionWord : List ℕ → ℕ
+editionWord words = getD (wordsFrom 1 1 words) 0 0
 
--- it is the one that they hold, where both have 32 bits
+abbrev windowsWord : List ℕ → ℕ
+windowsWord words = getD (wordsFrom 2 1 words) 0 0
+
+-- it is the one that they hold, where all three have 32 bits
 read-same :
     (words : List ℕ) →
     min (systemWord words) largestValue ≡ systemWord words →
+    min (editionWord words) largestValue ≡ editionWord words →
     min (windowsWord words) largestValue ≡ windowsWord words →
     recordRead words ≡ recordOf words
 unfolding recordRead recordOf ofParts partsFrom
-read-same words system windows = rw (system, windows)
+read-same words system edition windows = rw (system, edition, windows)
 
 -- so it is where one of the two is sound
 read-sound : (words : List ℕ) → isSound (recordRead words) ≡ true → recordRead words ≡ recordOf words
 unfolding recordRead ofParts partsFrom
 read-sound words sound =
     let parts = sound-parts (recordRead words) sound in
-    let bounds = system-bounds _ (parts .system-known) in
-    read-same words (omega (arith, bounds .most)) (omega (arith, parts .windows-le))
+    let known = setup-parts _ (parts .setup-known) in
+    read-same words
+    (omega (arith, system-bounds _ (known .system-known) .most))
+    (omega (arith, edition-le _ (known .edition-known)))
+    (omega (arith, parts .windows-le))
 
 held-sound : (words : List ℕ) → isSound (recordOf words) ≡ true → recordRead words ≡ recordOf words
 unfolding recordOf ofParts partsFrom
 held-sound words sound =
     let parts = sound-parts (recordOf words) sound in
-    let bounds = system-bounds _ (parts .system-known) in
-    read-same words (omega (arith, bounds .most)) (omega (arith, parts .windows-le))
+    let known = setup-parts _ (parts .setup-known) in
+    read-same words
+    (omega (arith, system-bounds _ (known .system-known) .most))
+    (omega (arith, edition-le _ (known .edition-known)))
+    (omega (arith, parts .windows-le))
 
 -- what depends on a record only where it is sound is the same of both
 pub recordRead-same :

@@ -1,4 +1,4 @@
--- An observation record (document 01, "The observation record") as words that a caller keeps.
+-- An observation record (document 01, "The observation record"; its edition, document 02, card 7) as words that a caller keeps.
 use mathlib.Core.Bool.{cond}
 use mathlib.Core.Path.{_≡_}
 use mathlib.Core.List.{List, [], _∷_, map}
@@ -7,13 +7,14 @@ use lib.Dec.{eqb}
 use lib.ListN.{length, getD, take}
 use Rattle.rows.specs.Orders.{orderCount}
 use Rattle.rows.specs.Rows.{largestValue}
+use Rattle.rows.specs.Setups.{setupOf}
 use Rattle.observation.specs.declared.Observation.{Observation}
 use Rattle.record_words.specs.Parts.{partsFrom, total}
 use Rattle.algebra.specs.Lists.{joined}
 
--- the counts of words of a record's parts: its system, its count of windows, and the smoothed values, the sums and the peaks of the 40 orders
+-- the counts of words of a record's parts: its system, its edition, its count of windows, and the smoothed values, the sums and the peaks of the 40 orders
 abbrev pub recordParts : List ℕ
-recordParts = 1 ∷ 1 ∷ orderCount ∷ orderCount ∷ orderCount ∷ []
+recordParts = 1 ∷ 1 ∷ 1 ∷ orderCount ∷ orderCount ∷ orderCount ∷ []
 
 -- the words of a record
 abbrev pub recordWords : ℕ
@@ -21,21 +22,21 @@ recordWords = total recordParts
 
 -- the place of the first smoothed value
 abbrev pub smoothedPlace : ℕ
-smoothedPlace = total (take 2 recordParts)
+smoothedPlace = total (take 3 recordParts)
 
 -- the parts of a record
 unfoldable pub partsOf : Observation → List (List ℕ)
-partsOf o = (o .system ∷ []) ∷ (o .windows ∷ []) ∷ o .smoothed ∷ o .sum ∷ o .peak ∷ []
+partsOf o = (o .setup .system ∷ []) ∷ (o .setup .edition ∷ []) ∷ (o .windows ∷ []) ∷ o .smoothed ∷ o .sum ∷ o .peak ∷ []
 
--- the record of some parts, its system and its count of windows as a number of words has them
+-- the record of some parts, its system, its edition and its count of windows as a number of words has them
 unfoldable pub ofParts : (ℕ → ℕ) → List (List ℕ) → Observation
 ofParts counted parts =
     record {
-      system = counted (getD (getD parts 0 []) 0 0);
-      windows = counted (getD (getD parts 1 []) 0 0);
-      smoothed = getD parts 2 [];
-      sum = getD parts 3 [];
-      peak = getD parts 4 [];
+      setup = setupOf (counted (getD (getD parts 0 []) 0 0)) (counted (getD (getD parts 1 []) 0 0));
+      windows = counted (getD (getD parts 2 []) 0 0);
+      smoothed = getD parts 3 [];
+      sum = getD parts 4 [];
+      peak = getD parts 5 [];
     }
 
 -- the words that hold a record
@@ -46,7 +47,7 @@ wordsOf o = joined (partsOf o)
 unfoldable pub recordOf : List ℕ → Observation
 recordOf words = ofParts (λ word. word) (partsFrom 0 recordParts words)
 
--- the same in the library's numbers: its system and its count of windows have 32 bits, and a word that has more counts as the largest of them, which is neither a system nor a count of a sound record
+-- the same in the library's numbers: its system, its edition and its count of windows have 32 bits, and a word that has more counts as the largest of them, which is none of a sound record's
 unfoldable pub recordRead : List ℕ → Observation
 recordRead words = ofParts (λ word. min word largestValue) (partsFrom 0 recordParts words)
 

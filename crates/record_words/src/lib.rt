@@ -11,7 +11,9 @@ pub use writing::hand_over_record;
 // Each part begins where the part before it ends.
 const SYSTEM_PLACE: usize = 0;
 
-const WINDOWS_PLACE: usize = SYSTEM_PLACE + 1;
+const EDITION_PLACE: usize = SYSTEM_PLACE + 1;
+
+const WINDOWS_PLACE: usize = EDITION_PLACE + 1;
 
 const SMOOTHED_PLACE: usize = WINDOWS_PLACE + 1;
 

@@ -1,4 +1,5 @@
 // The record that some words hold.
+use crate::EDITION_PLACE;
 use crate::PEAK_PLACE;
 use crate::SMOOTHED_PLACE;
 use crate::SUM_PLACE;
@@ -7,6 +8,7 @@ use crate::WINDOWS_PLACE;
 use observation::Observation;
 use rows::LARGEST_VALUE;
 use rows::ORDER_COUNT;
+use rows::Setup;
 ghost use mathlib.Core.Path.{_≡_};
 ghost use Prim.Native.Nat.{_<_, min};
 ghost use lib.ListN.{getD};
@@ -52,13 +54,16 @@ fn values_at(words: &[u64], place: usize) -> [u64; ORDER_COUNT]
 pub fn read_record(words: &[u64]) -> Observation
     ensures { λ r. ⌜ r ≡ recordRead (now (words .entry)) ⌝ }
 {
-    let system = count_at(words, SYSTEM_PLACE);
+    let setup = Setup {
+        system: count_at(words, SYSTEM_PLACE),
+        edition: count_at(words, EDITION_PLACE),
+    };
     let windows = count_at(words, WINDOWS_PLACE);
     let smoothed = values_at(words, SMOOTHED_PLACE);
     let sum = values_at(words, SUM_PLACE);
     let peak = values_at(words, PEAK_PLACE);
     Observation {
-        system,
+        setup,
         windows,
         smoothed,
         sum,

@@ -40,7 +40,12 @@ fn write_record(observation: Observation, words: &mut [u64])
     requires { ⌜ length (now words) ≡ recordWords ⌝ }
     ensures { λ _. ⌜ now (words .exit) ≡ wordsOf observation ⌝ }
 {
-    let counts = [observation.system as u64, observation.windows as u64];
+    let setup = observation.setup;
+    let counts = [
+        setup.system as u64,
+        setup.edition as u64,
+        observation.windows as u64,
+    ];
     put_part(words, SYSTEM_PLACE, SMOOTHED_PLACE, &counts);
     put_part(words, SMOOTHED_PLACE, SUM_PLACE, &observation.smoothed);
     put_part(words, SUM_PLACE, PEAK_PLACE, &observation.sum);

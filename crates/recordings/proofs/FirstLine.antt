@@ -14,6 +14,8 @@ use Rattle.refusals.specs.Numbers.{noRefusal, notAColumn, unknownSystem}
 use Rattle.columns.specs.Calls.{readingOf}
 use Rattle.rows.specs.Orders.{orderCount}
 use Rattle.rows.specs.Systems.{isSystem}
+use Rattle.rows.specs.Editions.{isEdition, edition2}
+use Rattle.rows.specs.Setups.{setupOf}
 use Rattle.observation.specs.Calls.{freshRefusal, freshAnswer}
 use Rattle.recordings.specs.declared.Reading.{Reading}
 use Rattle.recordings.specs.TextLines.{textLineAt, textLineNumber, numberOr0, numberAt}
@@ -42,7 +44,7 @@ textLineRefusal-first line = refl
 abbrev pub begun : Option ℤ → Reading
 begun o =
     let read = readingOf o in
-    let fresh = freshAnswer (systemWord (read .value)) in
+    let fresh = freshAnswer (setupOf (systemWord (read .value)) edition2) in
     record {
       refusal = cond (not (eqb (read .refusal) noRefusal)) (read .refusal) (fresh .refusal);
       observation = fresh .observation;
@@ -51,7 +53,7 @@ begun o =
     }
 
 pub beginOf-is : (line : List ℕ) (o : Option ℤ) → textLineNumber (textLineAt line 0) ≡ o → begun o ≡ beginOf line
-unfolding beginOf textLineRefusal numberRefusal isNone systemWord numberAt numberOr0 systemIn noSystem freshAnswer freshRefusal
+unfolding beginOf textLineRefusal numberRefusal isNone systemWord numberAt numberOr0 systemIn noSystem freshAnswer freshRefusal isEdition
 beginOf-is line none e = rw (e, zero-no-system)
 beginOf-is line (some (pos n)) e = by-size (decLt largestSystem n)
   where

@@ -12,6 +12,10 @@ use Rattle.algebra.specs.Lists.{tabulate}
 use Rattle.refusals.specs.Numbers.{noRefusal, unknownSystem}
 use Rattle.groups.specs.declared.Kind.the-variants.{HarmonicGroup, HarmonicSubgroup}
 use Rattle.rows.specs.Systems.{isSystem}
+use Rattle.rows.specs.Editions.{isEdition}
+use Rattle.rows.specs.Setups.{isSetup}
+use Rattle.rows.specs.declared.Setup.{Setup}
+use Rattle.rows.proofs.Setups.{isSetup-known}
 use Rattle.observation.specs.Soundness.{isSound}
 use Rattle.observation.specs.Calls.{emptyRecord}
 use Rattle.observation.specs.RecordAfter.{recordAfter}
@@ -20,19 +24,19 @@ use Rattle.refusals.proofs.Answers.{no-faults}
 use Rattle.recordings.specs.declared.Reading.{Reading}
 use Rattle.recordings.specs.TextLines.{textLineBytes, textLineAt, textLineNumber, numberOr0, numberAt}
 use Rattle.recordings.specs.InputRefusal.{noSystem, numberChecks, numberRefusal, textLineRefusal, firstOf, refusalBefore}
-use Rattle.recordings.specs.Windows.{systemIn, windowIn, rowsIn, recordIn}
+use Rattle.recordings.specs.Windows.{systemIn, setupIn, windowIn, rowsIn, recordIn}
 use Rattle.groups.specs.Group.{windowRow}
 use Rattle.recordings.specs.Blocks.{beginOf}
 use Rattle.recordings.proofs.TextLines.{linesTo}
 
 -- a reading that goes on after w windows of a text
 pub record GoesOn (text : List ℕ) (w : ℕ) (reading : Reading) : Type 0 where
-  pub system-is : reading .observation .system ≡ systemIn text
+  pub setup-is : reading .observation .setup ≡ setupIn text
   pub windows-are : reading .observation .windows ≡ w
   pub sound : isSound (reading .observation) ≡ true
   pub record-is : reading .observation ≡ recordIn text w
-  pub group-is : 0 < w → reading .group ≡ windowRow HarmonicGroup (systemIn text) (windowIn text (w - 1)) .values
-  pub subgroup-is : 0 < w → reading .subgroup ≡ windowRow HarmonicSubgroup (systemIn text) (windowIn text (w - 1)) .values
+  pub group-is : 0 < w → reading .group ≡ windowRow HarmonicGroup (setupIn text) (windowIn text (w - 1)) .values
+  pub subgroup-is : 0 < w → reading .subgroup ≡ windowRow HarmonicSubgroup (setupIn text) (windowIn text (w - 1)) .values
 
 pub record Holds (text : List ℕ) (w : ℕ) (reading : Reading) : Type 0 where
   pub long : length text ≡ textLineBytes * linesTo w
@@ -46,19 +50,19 @@ unfolding noSystem
 known-system (pos n) e = not-false (isSystem n) e
 known-system (negsuc n) e = absurd (true≢false e)
 
-system-of-first : (line : List ℕ) → textLineRefusal line 0 ≡ noRefusal → isSystem (systemIn line) ≡ true
-unfolding systemIn textLineRefusal numberRefusal numberAt
-system-of-first line e =
+setup-of-first : (line : List ℕ) → textLineRefusal line 0 ≡ noRefusal → isSetup (setupIn line) ≡ true
+unfolding systemIn textLineRefusal numberRefusal numberAt isEdition
+setup-of-first line e =
     let number = textLineNumber (textLineAt line 0) in
-    known-system (numberOr0 number) (no-faults (numberChecks number 0) refl e unknownSystem)
+    isSetup-known (setupIn line) (known-system (numberOr0 number) (no-faults (numberChecks number 0) refl e unknownSystem)) refl
 
-emptyRecord-system : (system : ℕ) → emptyRecord system .system ≡ system
+emptyRecord-setup : (setup : Setup) → emptyRecord setup .setup ≡ setup
 unfolding emptyRecord
-emptyRecord-system system = refl
+emptyRecord-setup setup = refl
 
-emptyRecord-windows : (system : ℕ) → emptyRecord system .windows ≡ 0
+emptyRecord-windows : (setup : Setup) → emptyRecord setup .windows ≡ 0
 unfolding emptyRecord
-emptyRecord-windows system = refl
+emptyRecord-windows setup = refl
 
 pub begins : (line : List ℕ) → length line ≡ textLineBytes → Holds line 0 (beginOf line)
 unfolding beginOf refusalBefore firstOf recordIn rowsIn tabulate recordAfter
@@ -66,13 +70,13 @@ begins line e = record {
   long = omega arith;
   refusal-is = refl;
   goes-on = λ none.
-      let known = system-of-first line none in
-      let fresh = fresh-of-known (systemIn line) known in
-      let empty : beginOf line .observation ≡ emptyRecord (systemIn line) = rw none in
+      let known = setup-of-first line none in
+      let fresh = fresh-of-known (setupIn line) known in
+      let empty : beginOf line .observation ≡ emptyRecord (setupIn line) = rw none in
       record {
-        system-is = rw none (emptyRecord-system (systemIn line));
-        windows-are = rw none (emptyRecord-windows (systemIn line));
-        sound = rw empty (empty-record-sound (systemIn line) known);
+        setup-is = rw none (emptyRecord-setup (setupIn line));
+        windows-are = rw none (emptyRecord-windows (setupIn line));
+        sound = rw empty (empty-record-sound (setupIn line) known);
         record-is = empty ∙ sym fresh;
         group-is = λ h. absurd (omega arith);
         subgroup-is = λ h. absurd (omega arith);

@@ -18,7 +18,9 @@ use Rattle.observation.specs.Calls.{freshAnswer}
 use Rattle.observation.specs.RecordAfter.{recordAfter}
 use Rattle.recordings.specs.TextLines.{textLineBytes, textLineAt, textLineNumber, numberOr0, numberAt}
 use Rattle.recordings.specs.InputRefusal.{isNone, numberRefusal, textLineRefusal, refusalBefore}
-use Rattle.recordings.specs.Windows.{systemIn, windowIn, rowsIn, recordIn}
+use Rattle.rows.specs.Editions.{edition2}
+use Rattle.rows.specs.Setups.{setupOf}
+use Rattle.recordings.specs.Windows.{systemIn, setupIn, windowIn, rowsIn, recordIn}
 use Rattle.recordings.specs.Blocks.{sampleRefusal, samplesOf}
 use Rattle.recordings.proofs.FirstOf.{firstOf-same}
 
@@ -58,9 +60,12 @@ module _ (p q : List ℕ) where
       firstOf-same (textLineRefusal (p ++ q)) (textLineRefusal p) n
       (λ i l. textLineRefusal-same (p ++ q) p i (textLineAt-front i (omega arith)))
 
-  pub systemIn-front : textLineBytes ≤ length p → systemIn (p ++ q) ≡ systemIn p
+  systemIn-front : textLineBytes ≤ length p → systemIn (p ++ q) ≡ systemIn p
   unfolding systemIn
   systemIn-front h = ap natAbs (numberAt-same (p ++ q) p 0 0 (textLineAt-front 0 (omega arith)))
+
+  pub setupIn-front : textLineBytes ≤ length p → setupIn (p ++ q) ≡ setupIn p
+  setupIn-front h = ap (λ (system : ℕ). setupOf system edition2) (systemIn-front h)
 
   windowIn-front : (w v : ℕ) → length p ≡ textLineBytes * linesTo w → v < w → windowIn (p ++ q) v ≡ windowIn p v
   unfolding windowIn
@@ -74,8 +79,8 @@ module _ (p q : List ℕ) where
   pub recordIn-front : (w : ℕ) → length p ≡ textLineBytes * linesTo w → recordIn (p ++ q) w ≡ recordIn p w
   unfolding recordIn rowsIn
   recordIn-front w e =
-      rw (systemIn-front (omega arith))
-      (ap (recordAfter (freshAnswer (systemIn p) .observation))
+      rw (setupIn-front (omega arith))
+      (ap (recordAfter (freshAnswer (setupIn p) .observation))
       (tabulate-agree w _ _ (λ v l. rw (windowIn-front w v e l))))
 
   -- the window after it

@@ -33,7 +33,7 @@ windowTaken-added :
 unfolding windowTaken addRowAnswer
 windowTaken-added reading window e =
     let o = reading .observation in
-    let row = windowRow HarmonicGroup (o .system) window in (
+    let row = windowRow HarmonicGroup (o .setup) window in (
       accepted-call o row e .row-accepted .room,
       ap (λ (r : Observation). r .windows) (addRowAnswer-accepted o row e) ∙ withRow-windows o row,
     )

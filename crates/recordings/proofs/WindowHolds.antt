@@ -12,7 +12,7 @@ use Rattle.refusals.specs.Numbers.{noRefusal, recordFull}
 use Rattle.spectrum.specs.Line.{windowLength}
 use Rattle.groups.specs.declared.Kind.{Kind}
 use Rattle.groups.specs.declared.Kind.the-variants.{HarmonicGroup, HarmonicSubgroup}
-use Rattle.groups.proofs.GroupSum.{windowRow-fits, windowRow-system}
+use Rattle.groups.proofs.GroupSum.{windowRow-fits, windowRow-setup}
 use Rattle.rows.specs.declared.Row.{Row}
 use Rattle.observation.specs.declared.Observation.{Observation}
 use Rattle.observation.specs.Soundness.{mostWindows}
@@ -22,12 +22,12 @@ use Rattle.observation.proofs.RecordAfter.{record-after-tabulate}
 use Rattle.recordings.specs.declared.Reading.{Reading}
 use Rattle.recordings.specs.TextLines.{textLineBytes}
 use Rattle.recordings.specs.InputRefusal.{refusalBefore}
-use Rattle.recordings.specs.Windows.{systemIn, windowIn, rowsIn, recordIn}
+use Rattle.recordings.specs.Windows.{setupIn, windowIn, rowsIn, recordIn}
 use Rattle.groups.specs.Group.{windowRow}
 use Rattle.recordings.specs.Blocks.{windowBytes, textLinesRefusal, blockLines, samplesOf, refusedWith, windowTaken, blockOf}
 use Rattle.recordings.proofs.BlockLaws.{blockLines-whole, blockOf-refused, blockOf-text-line, blockOf-whole}
 use Rattle.recordings.proofs.WindowAdded.{withRow-windows}
-use Rattle.recordings.proofs.TextLines.{linesTo, fullAt, systemIn-front, recordIn-front, windowIn-after}
+use Rattle.recordings.proofs.TextLines.{linesTo, fullAt, setupIn-front, recordIn-front, windowIn-after}
 use Rattle.recordings.proofs.WindowRefusals.{refusalBefore-stays, refusalBefore-window}
 use Rattle.recordings.proofs.Holds.{GoesOn, Holds}
 
@@ -51,14 +51,14 @@ not-full w e = by-count (decLe mostWindows w)
 
 -- the row that a window adds to the record
 groupRow : Reading → List ℕ → Row
-groupRow reading block = windowRow HarmonicGroup (reading .observation .system) (samplesOf block)
+groupRow reading block = windowRow HarmonicGroup (reading .observation .setup) (samplesOf block)
 
-withRow-system : (o : Observation) (row : Row) → withRow o row .system ≡ o .system
+withRow-setup : (o : Observation) (row : Row) → withRow o row .setup ≡ o .setup
 unfolding withRow
-withRow-system o row = refl
+withRow-setup o row = refl
 
 recordIn-next : (text : List ℕ) (w : ℕ)
-    → recordIn text (w + 1) ≡ addRowAnswer (recordIn text w) (windowRow HarmonicGroup (systemIn text) (windowIn text w)) .observation
+    → recordIn text (w + 1) ≡ addRowAnswer (recordIn text w) (windowRow HarmonicGroup (setupIn text) (windowIn text w)) .observation
 unfolding recordIn rowsIn
 recordIn-next text w = record-after-tabulate _ w _
 
@@ -119,40 +119,40 @@ module _ (p block : List ℕ) (w : ℕ) (reading : Reading) (h : Holds p w readi
       window-refusal : addRowRefusal (reading .observation) (groupRow reading block) ≡ cond (leb mostWindows w) recordFull noRefusal
       unfolding groupRow
       window-refusal =
-          addRowRefusal-own (reading .observation) (groupRow reading block) (goes .sound) (windowRow-system HarmonicGroup _ _)
+          addRowRefusal-own (reading .observation) (groupRow reading block) (goes .sound) (windowRow-setup HarmonicGroup _ _)
           ∙ rw (goes .windows-are)
 
-      system-next : systemIn (p ++ block) ≡ reading .observation .system
-      system-next = systemIn-front p block (omega (arith, h .long)) ∙ sym (goes .system-is)
+      setup-next : setupIn (p ++ block) ≡ reading .observation .setup
+      setup-next = setupIn-front p block (omega (arith, h .long)) ∙ sym (goes .setup-is)
 
       window-next : windowIn (p ++ block) w ≡ samplesOf block
       window-next = windowIn-after p block w (h .long)
 
       row-next : (kind : Kind)
-          → windowRow kind (systemIn (p ++ block)) (windowIn (p ++ block) (w + 1 - 1))
-          ≡ windowRow kind (reading .observation .system) (samplesOf block)
+          → windowRow kind (setupIn (p ++ block)) (windowIn (p ++ block) (w + 1 - 1))
+          ≡ windowRow kind (reading .observation .setup) (samplesOf block)
       row-next kind =
           let last : w + 1 - 1 ≡ w = omega arith in
-          rw (last, system-next, window-next)
+          rw (last, setup-next, window-next)
 
       record-is-next : addRowAnswer (reading .observation) (groupRow reading block) .observation ≡ recordIn (p ++ block) (w + 1)
       unfolding groupRow
       record-is-next =
           let front : recordIn (p ++ block) w ≡ reading .observation = recordIn-front p block w (h .long) ∙ sym (goes .record-is) in
-          sym (recordIn-next (p ++ block) w ∙ rw (front, system-next, window-next))
+          sym (recordIn-next (p ++ block) w ∙ rw (front, setup-next, window-next))
 
       goes-next : addRowRefusal (reading .observation) (groupRow reading block) ≡ noRefusal
           → GoesOn (p ++ block) (w + 1) (windowTaken reading (samplesOf block))
       unfolding windowTaken groupRow
       goes-next z =
           let o = reading .observation in
-          let row = windowRow HarmonicGroup (o .system) (samplesOf block) in
+          let row = windowRow HarmonicGroup (o .setup) (samplesOf block) in
           let room : o .windows < mostWindows = rw (goes .windows-are) (not-full w (sym window-refusal ∙ z)) in
           let added = addRowAnswer-accepted o row z in
           record {
-            system-is = ap (λ (r : Observation). r .system) added ∙ withRow-system o row ∙ sym system-next;
+            setup-is = ap (λ (r : Observation). r .setup) added ∙ withRow-setup o row ∙ sym setup-next;
             windows-are = ap (λ (r : Observation). r .windows) added ∙ withRow-windows o row ∙ rw (goes .windows-are);
-            sound = rw added (with-row-sound o row (goes .sound) room (windowRow-fits HarmonicGroup (o .system) (samplesOf block)));
+            sound = rw added (with-row-sound o row (goes .sound) room (windowRow-fits HarmonicGroup (o .setup) (samplesOf block)));
             record-is = record-is-next;
             group-is = λ l. ap (λ (r : Row). r .values) (sym (row-next HarmonicGroup));
             subgroup-is = λ l. ap (λ (r : Row). r .values) (sym (row-next HarmonicSubgroup));

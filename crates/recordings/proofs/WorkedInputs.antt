@@ -13,7 +13,9 @@ use Rattle.columns.specs.Text.{newline, bytesOf}
 use Rattle.columns.specs.Column.{areDigits, isWhole, placeValue, wholeNumber, negativeNumber, signedNumber, afterBlanks, columnNumber}
 use Rattle.spectrum.specs.Spectrum.{outOfRange}
 use Rattle.rows.specs.Systems.{isSystem}
-use Rattle.recordings.specs.TextLines.{textLineCount, textLineAt, textLineNumber, numberOr0}
+use Rattle.rows.specs.Setups.{setupOf}
+use Rattle.recordings.specs.TextLines.{textLineCount, textLineAt, textLineNumber, numberOr0, numberAt}
+use Rattle.recordings.specs.Windows.{systemIn, setupIn}
 use Rattle.recordings.specs.InputRefusal.{noSystem, isNone, numberRefusal, textLineRefusal, firstOf, refusalBefore, endRefusal, inputRefusal}
 
 -- a text and a newline
@@ -45,6 +47,11 @@ refusals =
 pub worked-refusals : allPass (λ i input. eqb (inputRefusal (input .0)) (input .1)) refusals ≡ true
 unfolding inputRefusal endRefusal refusalBefore firstOf textLineRefusal numberRefusal isNone noSystem textLineNumber textLineAt numberOr0 textLineCount bytesOf columnNumber signedNumber afterBlanks wholeNumber negativeNumber isWhole areDigits placeValue outOfRange isSystem
 worked-refusals = refl
+
+-- both systems are read under edition 2
+setups-worked : (setupIn (line "      10") ≡ setupOf 10 0) × (setupIn (line "      12") ≡ setupOf 12 0)
+unfolding systemIn numberAt textLineNumber textLineAt numberOr0 bytesOf columnNumber signedNumber afterBlanks wholeNumber isWhole areDigits placeValue
+setups-worked = (refl, refl)
 
 -- The number on a line, the line's place, and its refusal. The lines of window 45,001 are 92,160,001 to 92,162,048.
 abbrev textLineRefusals : List (Option ℤ × ℕ × ℕ)

@@ -17,19 +17,19 @@ use Rattle.observation.specs.Calls.{emptyRecord, refusedRecord, addRowAnswer}
 use Rattle.recordings.specs.declared.Reading.{Reading}
 use Rattle.recordings.specs.TextLines.{textLineBytes, textLineCount, textLineAt, textLineNumber, numberOr0, numberAt}
 use Rattle.recordings.specs.InputRefusal.{isNone, textLineRefusal, firstOf}
-use Rattle.recordings.specs.Windows.{systemIn}
+use Rattle.recordings.specs.Windows.{setupIn}
 use Rattle.groups.specs.Group.{windowRow}
 
 -- the bytes of a window's lines
 abbrev pub windowBytes : ℕ
 windowBytes = textLineBytes * windowLength
 
--- the reading after the first line: 13, 1, or a fresh record of its system; "a refused fresh record: system 10, zeros"
+-- the reading after the first line: 13, 1, or a fresh record of its system under edition 2; "a refused fresh record: system 10, zeros"
 unfoldable pub beginOf : List ℕ → Reading
 beginOf line =
     record {
       refusal = textLineRefusal line 0;
-      observation = unlessRefused (textLineRefusal line 0) (emptyRecord (systemIn line)) refusedRecord;
+      observation = unlessRefused (textLineRefusal line 0) (emptyRecord (setupIn line)) refusedRecord;
       group = replicate orderCount 0;
       subgroup = replicate orderCount 0;
     }
@@ -79,13 +79,13 @@ refusedWith refusal reading =
 -- a whole window that is not refused: its harmonic groups are added to the record, 9 where that holds 45,000 windows
 unfoldable pub windowTaken : Reading → List ℤ → Reading
 windowTaken reading window =
-    let row = windowRow HarmonicGroup (reading .observation .system) window in
+    let row = windowRow HarmonicGroup (reading .observation .setup) window in
     let added = addRowAnswer (reading .observation) row in
     record {
       refusal = added .refusal;
       observation = added .observation;
       group = row .values;
-      subgroup = windowRow HarmonicSubgroup (reading .observation .system) window .values;
+      subgroup = windowRow HarmonicSubgroup (reading .observation .setup) window .values;
     }
 
 -- the reading after a block; a reading that is refused stays as it is, and so does any at an empty block

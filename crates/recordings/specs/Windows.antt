@@ -7,7 +7,10 @@ use Rattle.spectrum.specs.Line.{windowLength}
 use Rattle.groups.specs.declared.Kind.{Kind}
 use Rattle.groups.specs.declared.Kind.the-variants.{HarmonicGroup}
 use Rattle.groups.specs.Group.{windowRow}
+use Rattle.rows.specs.Editions.{edition2}
+use Rattle.rows.specs.Setups.{setupOf}
 use Rattle.rows.specs.declared.Row.{Row}
+use Rattle.rows.specs.declared.Setup.{Setup}
 use Rattle.observation.specs.declared.Observation.{Observation}
 use Rattle.observation.specs.Calls.{freshAnswer}
 use Rattle.observation.specs.RecordAfter.{recordAfter}
@@ -16,6 +19,10 @@ use Rattle.recordings.specs.TextLines.{textLineCount, numberAt}
 -- the system, on line 0
 unfoldable pub systemIn : List ℕ → ℕ
 systemIn text = natAbs (numberAt text 0)
+
+-- with edition 2, which `harmlist` keeps (document 02, card 7)
+abbrev pub setupIn : List ℕ → Setup
+setupIn text = setupOf (systemIn text) edition2
 
 -- the samples of window w, on the lines after the system's, windows back to back
 unfoldable pub windowIn : List ℕ → ℕ → List ℤ
@@ -27,8 +34,8 @@ windowCount text = (textLineCount text - 1) / windowLength
 
 -- the rows of the first n windows
 unfoldable pub rowsIn : Kind → List ℕ → ℕ → List Row
-rowsIn kind text n = tabulate n (λ w. windowRow kind (systemIn text) (windowIn text w))
+rowsIn kind text n = tabulate n (λ w. windowRow kind (setupIn text) (windowIn text w))
 
 -- the record after those windows' harmonic groups: "smoothed is that of the harmonic groups"
 unfoldable pub recordIn : List ℕ → ℕ → Observation
-recordIn text n = recordAfter (freshAnswer (systemIn text) .observation) (rowsIn HarmonicGroup text n)
+recordIn text n = recordAfter (freshAnswer (setupIn text) .observation) (rowsIn HarmonicGroup text n)

@@ -12,8 +12,10 @@ use observation::fresh_record;
 use refusals::NO_REFUSAL;
 use refusals::SHORT_WINDOW;
 use refusals::fault_or;
+use rows::EDITION_2;
 use rows::ORDER_COUNT;
 use rows::Row;
+use rows::Setup;
 use spectrum::LINE_COUNT;
 use spectrum::WINDOW_LENGTH;
 use spectrum::spectrum;
@@ -48,7 +50,11 @@ pub fn begin(line: &[u8]) -> Reading
     ensures { λ r. ⌜ r ≡ beginOf (now (line .entry)) ⌝ }
 {
     let number = number_on_line(line, 0);
-    let fresh = fresh_record(system_word(number.value));
+    let setup = Setup {
+        system: system_word(number.value),
+        edition: EDITION_2,
+    };
+    let fresh = fresh_record(setup);
     let observation = fresh.observation;
     Reading {
         refusal: fault_or(number.refusal != NO_REFUSAL, number.refusal, fresh.refusal),
@@ -77,13 +83,13 @@ fn take_window(reading: Reading, samples: &[i32]) -> Reading
     let mut lines = [0; LINE_COUNT];
     spectrum(samples, 0, &mut lines);
     let observation = reading.observation;
-    let system = observation.system;
-    let groups = group_row(Kind::HarmonicGroup, system, &lines);
-    let subgroups = group_row(Kind::HarmonicSubgroup, system, &lines);
+    let setup = observation.setup;
+    let groups = group_row(Kind::HarmonicGroup, setup, &lines);
+    let subgroups = group_row(Kind::HarmonicSubgroup, setup, &lines);
     let group = groups.row.values;
     let subgroup = subgroups.row.values;
     let row = Row {
-        system,
+        setup,
         values: group,
     };
     let added = add_row(observation, row);

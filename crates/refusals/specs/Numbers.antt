@@ -33,9 +33,9 @@ orderOutOfRange = 6
 abbrev pub unsoundRecord : ℕ
 unsoundRecord = 7
 
--- system differs from the record's
-abbrev pub otherSystem : ℕ
-otherSystem = 8
+-- system differs from the record's, or the edition does (document 02, card 7)
+abbrev pub otherSetup : ℕ
+otherSetup = 8
 
 -- 45,000 windows held
 abbrev pub recordFull : ℕ
@@ -68,3 +68,7 @@ largestRefusal = wrongBufferLength
 -- class letter other than A or B (document 02, card 1)
 abbrev pub unknownClass : ℕ
 unknownClass = 15
+
+-- edition not 0 or 1 (document 02, card 7)
+abbrev pub unknownEdition : ℕ
+unknownEdition = 19

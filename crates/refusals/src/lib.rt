@@ -20,8 +20,8 @@ pub const LINE_TOO_LARGE: u32 = 5;
 pub const ORDER_OUT_OF_RANGE: u32 = 6;
 // An observation record that is not sound.
 pub const UNSOUND_RECORD: u32 = 7;
-// A row whose system is not the record's.
-pub const OTHER_SYSTEM: u32 = 8;
+// A row whose system or edition is not the record's.
+pub const OTHER_SETUP: u32 = 8;
 // The record holds 45,000 windows already.
 pub const RECORD_FULL: u32 = 9;
 // No window has come yet.
@@ -38,6 +38,8 @@ pub const WRONG_BUFFER_LENGTH: u32 = 14;
 pub const LARGEST_REFUSAL: u32 = WRONG_BUFFER_LENGTH;
 // A class letter other than A or B.
 pub const UNKNOWN_CLASS: u32 = 15;
+// The edition is neither 0 (edition 2) nor 1 (A1).
+pub const UNKNOWN_EDITION: u32 = 19;
 
 // What a public call answers: NO_REFUSAL with the value, or a refusal's number with 0.
 pub struct Answer {

@@ -1,4 +1,6 @@
--- The vocabulary of document 01 that the record, the columns and the verdicts share: orders, systems and rows.
+-- The vocabulary of documents 01 and 02 that the record, the columns and the verdicts share: orders, systems, editions and rows.
 pub mod Orders
 pub mod Systems
+pub mod Editions
+pub mod Setups
 pub mod Rows

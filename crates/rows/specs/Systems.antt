@@ -10,7 +10,3 @@ isSystem n = eqb n 10 || eqb n 12
 -- the check "1 system not 10 or 12"
 abbrev pub systemCheck : ℕ → Bool × ℕ
 systemCheck n = (not (isSystem n), unknownSystem)
-
--- the system of a record or a row that is refused
-abbrev pub refusedSystem : ℕ
-refusedSystem = 10

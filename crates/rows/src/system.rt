@@ -2,12 +2,9 @@
 ghost use mathlib.Core.Path.{_≡_};
 ghost use Rattle.rows.specs.Systems.{isSystem};
 
-// The system of a record or a row that is refused.
-pub const REFUSED_SYSTEM: u32 = 10;
-
 // The system is 10 or 12 cycles in a window.
-pub fn is_system(system: u32) -> bool
+pub(crate) fn is_system(system: u32) -> bool
     ensures { λ r. ⌜ r ≡ isSystem system ⌝ }
 {
-    system == 10 || system == 12
+    (system == 10) | (system == 12)
 }

@@ -7,6 +7,8 @@ use lib.ListN.{replicate, set}
 use Rattle.algebra.specs.Fraction.{whole, times, divide}
 use Rattle.algebra.specs.Lists.{anyOf}
 use Rattle.rows.specs.Systems.{isSystem}
+use Rattle.rows.specs.Editions.{isEdition}
+use Rattle.rows.specs.Setups.{setupOf, isSetup}
 use Rattle.observation.specs.declared.Observation.{Observation}
 use Rattle.observation.specs.Soundness.{noneAbove, allZero, isSound}
 use Rattle.observation.specs.Calls.{emptyRecord}
@@ -32,7 +34,7 @@ only order value = set (replicate 40 0) (order - 1) value
 -- a record of some windows with the sum and the peak of one order
 observed : ℕ → ℕ → ℕ → ℕ → Observation
 observed windows order sum peak =
-    record { system = 10; windows = windows; smoothed = only order peak; sum = only order sum; peak = only order peak }
+    record { setup = setupOf 10 0; windows = windows; smoothed = only order peak; sum = only order sum; peak = only order peak }
 
 -- one window with a value at one order
 oneWindow : ℕ → ℕ → Observation
@@ -102,17 +104,19 @@ verdictCases =
     (verdictAnswer (oneWindow 3 0) (asked 3 66 268435456), Given (Within 3)) ∷
     (verdictAnswer (oneWindow 3 0) (asked 3 66 268435457), Refused 11) ∷
     -- 10: no window yet
-    (verdictAnswer (emptyRecord 10) (asked 3 65 1000000), Refused 10) ∷
+    (verdictAnswer (emptyRecord (setupOf 10 0)) (asked 3 65 1000000), Refused 10) ∷
+    (verdictAnswer (emptyRecord (setupOf 10 1)) (asked 3 65 1000000), Refused 10) ∷
     -- 7 before 10, 10 before 6, 6 before 15, 15 before 11; and 6 before 11
-    (verdictAnswer (emptyRecord 11) (asked 3 65 1000000), Refused 7) ∷
-    (verdictAnswer (emptyRecord 10) (asked 41 65 1000000), Refused 10) ∷
+    (verdictAnswer (emptyRecord (setupOf 11 0)) (asked 3 65 1000000), Refused 7) ∷
+    (verdictAnswer (emptyRecord (setupOf 10 2)) (asked 3 65 1000000), Refused 7) ∷
+    (verdictAnswer (emptyRecord (setupOf 10 0)) (asked 41 65 1000000), Refused 10) ∷
     (verdictAnswer (oneWindow 3 0) (asked 1 67 1000000), Refused 6) ∷
     (verdictAnswer (oneWindow 3 0) (asked 3 67 0), Refused 15) ∷
     (verdictAnswer (oneWindow 3 0) (asked 1 65 0), Refused 6) ∷
     []
 
 verdicts-worked : map (λ row. row .0) verdictCases ≡ map (λ row. row .1) verdictCases
-unfolding verdictCases only observed oneWindow emptyRecord isSystem anyOf noneAbove allZero isSound whole times divide limitOf classALimit figureIn ownFigures overOrder limitInUnits peakLimitInUnits raised atMost isWithin isOver averageOf peakOf combined verdictIn verdictRefusal verdictAnswer isClass classWith letterOf
+unfolding verdictCases only observed oneWindow emptyRecord isSetup isSystem isEdition anyOf noneAbove allZero isSound whole times divide limitOf classALimit figureIn ownFigures overOrder limitInUnits peakLimitInUnits raised atMost isWithin isOver averageOf peakOf combined verdictIn verdictRefusal verdictAnswer isClass classWith letterOf
 verdicts-worked = refl
 
 -- ---- the numbers of the cases

@@ -14,9 +14,11 @@ use Rattle.algebra.specs.Rounding.{nearest}
 use Rattle.algebra.specs.Fraction.{whole, times, divide}
 use Rattle.algebra.specs.LowestTerms.{least, leastDenominator, lowestTerms}
 use Rattle.integers.specs.Root.{rootOf}
-use Rattle.groups.specs.Spans.{spanOf, weightsIn, weightedSum}
-use Rattle.groups.specs.Group.{groupValue, groupRefusal, groupAnswer, groupValues, groupRowRefusal}
+use Rattle.groups.specs.Spans.{spanOf, groupedAs, weightsIn, weightedSum}
+use Rattle.groups.specs.Group.{valueOver, groupValue, groupRefusal, groupAnswer, groupValues, groupRowRefusal}
 use Rattle.rows.specs.Systems.{isSystem}
+use Rattle.rows.specs.Editions.{isEdition}
+use Rattle.rows.specs.Setups.{setupOf, isSetup, sameSetup}
 use Rattle.rows.specs.Orders.{isOrder}
 use Rattle.distortion.specs.Distortion.{sumOfSquares, distortionOf, distortionAnswer}
 use Rattle.observation.specs.Soundness.{noneAbove, allZero, isSound}
@@ -63,26 +65,33 @@ lines : List ℕ
 lines =
     replicate 25 0 ++ (100 ∷ 0 ∷ 0 ∷ 0 ∷ 50 ∷ 50 ∷ 50 ∷ 50 ∷ 0 ∷ 0 ∷ 0 ∷ 300 ∷ replicate 475 0)
 
-groupValueOf : ℕ → ℕ → ℕ → List ℕ → ℕ × ℕ
-groupValueOf kind system order lent =
-    (groupCallRefusal kind system order lent, groupCallExit kind system order lent 77)
+groupValueOf : ℕ → ℕ → ℕ → ℕ → List ℕ → ℕ × ℕ
+groupValueOf kind system edition order lent =
+    let setup = setupOf system edition in
+    (groupCallRefusal kind setup order lent, groupCallExit kind setup order lent 77)
 
 group-values-worked :
     Alike
-    ((groupValueOf 0 10 3 lines, (0, 10)) ∷
-    (groupValueOf 1 10 3 lines, (0, 22)) ∷
-    (groupValueOf 2 10 3 lines, (0, 17)) ∷
-    (groupValueOf 3 10 3 lines, (0, 28)) ∷
-    (groupValueOf 4 10 3 lines, (0, 26)) ∷
-    (groupValueOf 5 10 3 lines, (101, 77)) ∷
-    -- 101 before 1 before 6 before 4 before 5
-    (groupValueOf 5 11 41 [], (101, 77)) ∷
-    (groupValueOf 4 11 41 [], (1, 77)) ∷
-    (groupValueOf 4 10 41 [], (6, 77)) ∷
-    (groupValueOf 4 10 40 (replicate 511 (2 ^ 59 + 1)), (4, 77)) ∷
-    (groupValueOf 4 10 40 (replicate 512 (2 ^ 59 + 1)), (5, 77)) ∷
+    ((groupValueOf 0 10 0 3 lines, (0, 10)) ∷
+    (groupValueOf 1 10 0 3 lines, (0, 22)) ∷
+    (groupValueOf 2 10 0 3 lines, (0, 17)) ∷
+    (groupValueOf 3 10 0 3 lines, (0, 28)) ∷
+    (groupValueOf 4 10 0 3 lines, (0, 26)) ∷
+    (groupValueOf 5 10 0 3 lines, (101, 77)) ∷
+    -- the first order and the second, under each edition
+    (groupValueOf 1 12 0 1 (replicate 512 50), (0, 34)) ∷
+    (groupValueOf 1 12 1 1 (replicate 512 50), (0, 10)) ∷
+    (groupValueOf 1 12 0 2 (replicate 512 50), (0, 34)) ∷
+    (groupValueOf 1 12 1 2 (replicate 512 50), (0, 34)) ∷
+    -- 101 before 1 before 19 before 6 before 4 before 5
+    (groupValueOf 5 11 2 41 [], (101, 77)) ∷
+    (groupValueOf 4 11 2 41 [], (1, 77)) ∷
+    (groupValueOf 4 10 2 41 [], (19, 77)) ∷
+    (groupValueOf 4 10 1 41 [], (6, 77)) ∷
+    (groupValueOf 4 10 0 40 (replicate 511 (2 ^ 59 + 1)), (4, 77)) ∷
+    (groupValueOf 4 10 0 40 (replicate 512 (2 ^ 59 + 1)), (5, 77)) ∷
     [])
-unfolding Alike groupValueOf lines groupCallRefusal groupCallExit isKind kindWith kinds groupRefusal isSystem isOrder groupValue rootOf largest spanOf weightsIn weightedSum sumOver tabulate anyOf
+unfolding Alike groupValueOf lines groupCallRefusal groupCallExit isKind kindWith kinds groupRefusal isSystem isEdition isOrder groupValue valueOver rootOf largest spanOf groupedAs weightsIn weightedSum sumOver tabulate anyOf
 group-values-worked = refl
 
 -- ---- kifsang_distortion
@@ -130,9 +139,9 @@ limits-worked = refl
 
 -- ---- kifsang_verdict
 
--- a record of system 10 with so many windows, and one number at every place after them
+-- a record of system 10 under A1 with so many windows, and one number at every place after them
 recordWith : ℕ → ℕ → List ℕ
-recordWith windows value = 10 ∷ windows ∷ replicate 120 value
+recordWith windows value = 10 ∷ 1 ∷ windows ∷ replicate 120 value
 
 verdictFor : List ℕ → ℕ → ℕ → ℕ → ℕ × ℕ
 verdictFor words order letter scale =
@@ -150,10 +159,12 @@ verdicts-worked :
     (verdictFor (recordWith 1 3450012) 3 66 1000000, (0, 2)) ∷
     (verdictFor (recordWith 1 3450013) 3 66 1000000, (0, 3)) ∷
     -- 102 before 7 before 10 before 6 before 15 before 11
-    (verdictFor (replicate 121 7) 1 0 0, (102, 77)) ∷
-    (verdictFor (replicate 123 7) 1 0 0, (102, 77)) ∷
-    (verdictFor (replicate 122 7) 1 0 0, (7, 77)) ∷
-    (verdictFor ((2 ^ 32 + 10) ∷ 1 ∷ replicate 120 0) 1 0 0, (7, 77)) ∷
+    (verdictFor (replicate 122 7) 1 0 0, (102, 77)) ∷
+    (verdictFor (replicate 124 7) 1 0 0, (102, 77)) ∷
+    (verdictFor (replicate 123 7) 1 0 0, (7, 77)) ∷
+    (verdictFor ((2 ^ 32 + 10) ∷ 1 ∷ 1 ∷ replicate 120 0) 1 0 0, (7, 77)) ∷
+    (verdictFor (10 ∷ 2 ∷ 1 ∷ replicate 120 0) 1 0 0, (7, 77)) ∷
+    (verdictFor (10 ∷ (2 ^ 32 + 1) ∷ 1 ∷ replicate 120 0) 1 0 0, (7, 77)) ∷
     (verdictFor (recordWith 0 0) 1 0 0, (10, 77)) ∷
     (verdictFor (recordWith 1 0) 1 0 0, (6, 77)) ∷
     (verdictFor (recordWith 1 0) 41 0 0, (6, 77)) ∷
@@ -166,92 +177,107 @@ verdicts-worked :
     (verdictFor (recordWith 1 0) 40 65 (2 ^ 28), (0, 1)) ∷
     (verdictFor (recordWith 1 0) 40 66 (2 ^ 28), (0, 1)) ∷
     [])
-unfolding Alike verdictFor recordWith verdictCallRefusal verdictCallExit verdictNumber recordOf ofParts partsFrom wordsFrom tabulate verdictRefusal verdictIn averageOf peakOf combined raised atMost isOver isWithin limitInUnits peakLimitInUnits isClass classWith letterOf limitOf classALimit figureIn ownFigures overOrder whole times divide isSound isSystem noneAbove allZero anyOf
+unfolding Alike verdictFor recordWith verdictCallRefusal verdictCallExit verdictNumber recordOf ofParts partsFrom wordsFrom tabulate verdictRefusal verdictIn averageOf peakOf combined raised atMost isOver isWithin limitInUnits peakLimitInUnits isClass classWith letterOf limitOf classALimit figureIn ownFigures overOrder whole times divide isSound isSetup isSystem isEdition noneAbove allZero anyOf
 verdicts-worked = refl
 
 -- ---- kifsang_row
 
-rowFor : ℕ → ℕ → List ℕ → List ℕ → ℕ × List ℕ
-rowFor kind system lent values = (rowCallRefusal kind system lent values, rowCallExit kind system lent values)
+rowFor : ℕ → ℕ → ℕ → List ℕ → List ℕ → ℕ × List ℕ
+rowFor kind system edition lent values =
+    let setup = setupOf system edition in
+    (rowCallRefusal kind setup lent values, rowCallExit kind setup lent values)
 
 rows-worked :
     Alike
-    ((rowFor 0 10 (replicate 512 50) (replicate 40 7), (0, replicate 40 10)) ∷
-    -- 101 before 102 before 1 before 4 before 5
-    (rowFor 5 11 [] (replicate 39 7), (101, replicate 39 7)) ∷
-    (rowFor 4 11 [] (replicate 39 7), (102, replicate 39 7)) ∷
-    (rowFor 4 11 [] (replicate 41 7), (102, replicate 41 7)) ∷
-    (rowFor 4 11 [] (replicate 40 7), (1, replicate 40 7)) ∷
-    (rowFor 4 10 (replicate 511 (2 ^ 59 + 1)) (replicate 40 7), (4, replicate 40 7)) ∷
-    (rowFor 4 10 (replicate 512 (2 ^ 59 + 1)) (replicate 40 7), (5, replicate 40 7)) ∷
+    ((rowFor 0 10 0 (replicate 512 50) (replicate 40 7), (0, replicate 40 10)) ∷
+    (rowFor 1 12 0 (replicate 512 50) (replicate 40 7), (0, replicate 40 34)) ∷
+    (rowFor 1 12 1 (replicate 512 50) (replicate 40 7), (0, 10 ∷ replicate 39 34)) ∷
+    -- 101 before 102 before 1 before 19 before 4 before 5
+    (rowFor 5 11 2 [] (replicate 39 7), (101, replicate 39 7)) ∷
+    (rowFor 4 11 2 [] (replicate 39 7), (102, replicate 39 7)) ∷
+    (rowFor 4 11 2 [] (replicate 41 7), (102, replicate 41 7)) ∷
+    (rowFor 4 11 2 [] (replicate 40 7), (1, replicate 40 7)) ∷
+    (rowFor 4 10 2 [] (replicate 40 7), (19, replicate 40 7)) ∷
+    (rowFor 4 10 1 (replicate 511 (2 ^ 59 + 1)) (replicate 40 7), (4, replicate 40 7)) ∷
+    (rowFor 4 10 1 (replicate 512 (2 ^ 59 + 1)) (replicate 40 7), (5, replicate 40 7)) ∷
     [])
-unfolding Alike rowFor rowCallRefusal rowCallExit isKind kindWith kinds groupRowRefusal groupRefusal isSystem isOrder groupValues groupAnswer groupValue rootOf largest spanOf weightsIn weightedSum sumOver tabulate anyOf
+unfolding Alike rowFor rowCallRefusal rowCallExit isKind kindWith kinds groupRowRefusal groupRefusal isSystem isEdition isOrder groupValues groupAnswer groupValue valueOver rootOf largest spanOf groupedAs weightsIn weightedSum sumOver tabulate anyOf
 rows-worked = refl
 
 -- ---- kifsang_fresh_record
 
-freshFor : ℕ → List ℕ → ℕ × List ℕ
-freshFor system words = (freshCallRefusal system words, freshCallExit system words)
+freshFor : ℕ → ℕ → List ℕ → ℕ × List ℕ
+freshFor system edition words =
+    let setup = setupOf system edition in
+    (freshCallRefusal setup words, freshCallExit setup words)
 
 fresh-records-worked :
     Alike
-    ((freshFor 10 (replicate 122 7), (0, 10 ∷ replicate 121 0)) ∷
-    (freshFor 12 (replicate 122 7), (0, 12 ∷ replicate 121 0)) ∷
-    -- 102 before 1
-    (freshFor 11 (replicate 121 7), (102, replicate 121 7)) ∷
-    (freshFor 11 (replicate 123 7), (102, replicate 123 7)) ∷
-    (freshFor 11 (replicate 122 7), (1, replicate 122 7)) ∷
+    ((freshFor 10 0 (replicate 123 7), (0, 10 ∷ 0 ∷ replicate 121 0)) ∷
+    (freshFor 12 1 (replicate 123 7), (0, 12 ∷ 1 ∷ replicate 121 0)) ∷
+    -- 102 before 1 before 19
+    (freshFor 11 2 (replicate 122 7), (102, replicate 122 7)) ∷
+    (freshFor 11 2 (replicate 124 7), (102, replicate 124 7)) ∷
+    (freshFor 11 2 (replicate 123 7), (1, replicate 123 7)) ∷
+    (freshFor 10 2 (replicate 123 7), (19, replicate 123 7)) ∷
     [])
-unfolding Alike freshFor freshCallRefusal freshCallExit freshRefusal isSystem wordsOf partsOf joined emptyRecord
+unfolding Alike freshFor freshCallRefusal freshCallExit freshRefusal isSystem isEdition wordsOf partsOf joined emptyRecord
 fresh-records-worked = refl
 
 -- ---- kifsang_observe
 
-observeFor : ℕ → ℕ → List ℤ → ℕ → ℕ → List ℕ → ℕ × List ℕ
-observeFor kind system recording start windows words =
-    (observeCallRefusal kind system recording start windows words, observeCallExit kind system recording start windows words)
+observeFor : ℕ → ℕ → ℕ → List ℤ → ℕ → ℕ → List ℕ → ℕ × List ℕ
+observeFor kind system edition recording start windows words =
+    let setup = setupOf system edition in
+    (observeCallRefusal kind setup recording start windows words, observeCallExit kind setup recording start windows words)
 
 observations-worked :
     Alike
     -- no window: a fresh record
-    ((observeFor 1 12 [] 9 0 (replicate 122 7), (0, 12 ∷ replicate 121 0)) ∷
-    -- 101 before 102 before 1 before 2 before 3
-    (observeFor 5 11 [] 0 1 (replicate 121 7), (101, replicate 121 7)) ∷
-    (observeFor 4 11 [] 0 1 (replicate 121 7), (102, replicate 121 7)) ∷
-    (observeFor 4 11 [] 0 1 (replicate 123 7), (102, replicate 123 7)) ∷
-    (observeFor 4 11 [] 0 1 (replicate 122 7), (1, replicate 122 7)) ∷
-    (observeFor 4 10 (replicate 2048 (pos 131072)) 1 1 (replicate 122 7), (2, replicate 122 7)) ∷
-    (observeFor 4 10 (replicate 2048 (pos 131072)) 0 2 (replicate 122 7), (3, replicate 122 7)) ∷
+    ((observeFor 1 12 1 [] 9 0 (replicate 123 7), (0, 12 ∷ 1 ∷ replicate 121 0)) ∷
+    -- 101 before 102 before 1 before 19 before 2 before 3
+    (observeFor 5 11 2 [] 0 1 (replicate 122 7), (101, replicate 122 7)) ∷
+    (observeFor 4 11 2 [] 0 1 (replicate 122 7), (102, replicate 122 7)) ∷
+    (observeFor 4 11 2 [] 0 1 (replicate 124 7), (102, replicate 124 7)) ∷
+    (observeFor 4 11 2 [] 0 1 (replicate 123 7), (1, replicate 123 7)) ∷
+    (observeFor 4 10 2 [] 0 1 (replicate 123 7), (19, replicate 123 7)) ∷
+    (observeFor 4 10 0 (replicate 2048 (pos 131072)) 1 1 (replicate 123 7), (2, replicate 123 7)) ∷
+    (observeFor 4 10 1 (replicate 2048 (pos 131072)) 0 2 (replicate 123 7), (3, replicate 123 7)) ∷
     [])
-unfolding Alike observeFor observeCallRefusal observeCallExit isKind kindWith kinds observeRefusal observeChecks windowRows tabulate isSystem windowAt outOfRange anyOf recordAfter emptyRecord wordsOf partsOf joined
+unfolding Alike observeFor observeCallRefusal observeCallExit isKind kindWith kinds observeRefusal observeChecks windowRows tabulate isSystem isEdition windowAt outOfRange anyOf recordAfter emptyRecord wordsOf partsOf joined
 observations-worked = refl
 
 -- ---- kifsang_add_row
 
-addFor : List ℕ → ℕ → List ℕ → ℕ × List ℕ
-addFor words system values = (addRowCallRefusal words system values, addRowCallExit words system values)
+addFor : List ℕ → ℕ → ℕ → List ℕ → ℕ × List ℕ
+addFor words system edition values =
+    let setup = setupOf system edition in
+    (addRowCallRefusal words setup values, addRowCallExit words setup values)
 
 add-rows-worked :
     Alike
-    ((addFor (10 ∷ replicate 121 0) 10 (replicate 40 8944), (0, 10 ∷ 1 ∷ replicate 120 8944)) ∷
+    ((addFor (10 ∷ 0 ∷ replicate 121 0) 10 0 (replicate 40 8944), (0, 10 ∷ 0 ∷ 1 ∷ replicate 120 8944)) ∷
     -- •8 in words: smoothed, sum and peak of each order
-    (addFor (recordWith 1 8944) 10 (replicate 40 0), (0, 10 ∷ 2 ∷ replicate 40 7828 ++ (replicate 40 16772 ++ replicate 40 8944))) ∷
+    (addFor (recordWith 1 8944) 10 1 (replicate 40 0), (0, 10 ∷ 1 ∷ 2 ∷ replicate 40 7828 ++ (replicate 40 16772 ++ replicate 40 8944))) ∷
     -- the weights 1000 and 7012 on the largest value
     (
-      addFor (recordWith 1 4294967295) 10 (replicate 40 0),
-      (0, 10 ∷ 2 ∷ replicate 40 3758900483 ++ (replicate 40 8053867778 ++ replicate 40 4294967295)),
+      addFor (recordWith 1 4294967295) 10 1 (replicate 40 0),
+      (0, 10 ∷ 1 ∷ 2 ∷ replicate 40 3758900483 ++ (replicate 40 8053867778 ++ replicate 40 4294967295)),
     ) ∷
-    (addFor (10 ∷ 1 ∷ replicate 120 0) 10 (replicate 40 4294967295), (0, 10 ∷ 2 ∷ replicate 120 536066812)) ∷
-    -- 102 before 7 before 1 before 8 before 9
-    (addFor (replicate 121 7) 11 (replicate 40 1), (102, replicate 121 7)) ∷
-    (addFor (replicate 122 7) 11 (replicate 39 1), (102, replicate 122 7)) ∷
-    (addFor (replicate 122 7) 11 (replicate 41 1), (102, replicate 122 7)) ∷
-    (addFor (replicate 122 7) 11 (replicate 40 1), (7, replicate 122 7)) ∷
-    (addFor (recordWith 45000 7) 11 (replicate 40 1), (1, recordWith 45000 7)) ∷
-    (addFor (recordWith 45000 7) 12 (replicate 40 1), (8, recordWith 45000 7)) ∷
-    (addFor (recordWith 45000 7) 10 (replicate 40 1), (9, recordWith 45000 7)) ∷
+    (addFor (recordWith 1 0) 10 1 (replicate 40 4294967295), (0, 10 ∷ 1 ∷ 2 ∷ replicate 120 536066812)) ∷
+    -- 102 before 7 before 1 before 19 before 8 before 9
+    (addFor (replicate 122 7) 11 2 (replicate 40 1), (102, replicate 122 7)) ∷
+    (addFor (replicate 123 7) 11 2 (replicate 39 1), (102, replicate 123 7)) ∷
+    (addFor (replicate 123 7) 11 2 (replicate 41 1), (102, replicate 123 7)) ∷
+    (addFor (replicate 123 7) 11 2 (replicate 40 1), (7, replicate 123 7)) ∷
+    (addFor (10 ∷ 2 ∷ replicate 121 0) 10 2 (replicate 40 1), (7, 10 ∷ 2 ∷ replicate 121 0)) ∷
+    (addFor (recordWith 45000 7) 11 2 (replicate 40 1), (1, recordWith 45000 7)) ∷
+    (addFor (recordWith 45000 7) 12 2 (replicate 40 1), (19, recordWith 45000 7)) ∷
+    (addFor (recordWith 45000 7) 12 1 (replicate 40 1), (8, recordWith 45000 7)) ∷
+    (addFor (recordWith 45000 7) 10 0 (replicate 40 1), (8, recordWith 45000 7)) ∷
+    (addFor (recordWith 45000 7) 10 1 (replicate 40 1), (9, recordWith 45000 7)) ∷
     [])
-unfolding Alike addFor recordWith addRowCallRefusal addRowCallExit recordOf ofParts partsFrom wordsFrom wordsOf partsOf joined addRowRefusal rowChecks withRow nextBook bookAt bookStep smoothedNext smoothedValue nearest tabulate isSound isSystem noneAbove allZero anyOf
+unfolding Alike addFor recordWith addRowCallRefusal addRowCallExit recordOf ofParts partsFrom wordsFrom wordsOf partsOf joined addRowRefusal rowChecks sameSetup withRow nextBook bookAt bookStep smoothedNext smoothedValue nearest tabulate isSound isSetup isSystem isEdition noneAbove allZero anyOf
 add-rows-worked = refl
 
 -- ---- kifsang_read_column

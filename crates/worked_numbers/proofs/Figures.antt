@@ -1,4 +1,4 @@
--- The margins of demand 3 in figures, at each system: 7 units for a group value, 12 for a smoothed one, and what the numbers of the three verdicts of
+-- The margins of demand 3 in figures, at each system and under each edition: 7 units for a group value, 12 for a smoothed one, and what the numbers of the three verdicts of
 -- order 3 say against its limit of 2,300 mA. The claims name their numbers, and a weaker one would be proved as well; here it is refused.
 use mathlib.Core.Path.{_≡_, refl, ap}
 use mathlib.Core.Bool.{true}
@@ -10,13 +10,17 @@ use native.Mathlib.Omega.{arith}
 use lib.IntN.{ℤ}
 use lib.ListN.{length, getD}
 use Rattle.algebra.specs.Fraction.{Fraction, whole, times, divide, square, _+ᶠ_}
-use Rattle.spectrum.specs.Line.{windowAt, linesOf}
+use Rattle.spectrum.specs.Line.{windowAt, lineOf, linesOf}
 use Rattle.spectrum.specs.Spectrum.{spectrumRefusal, spectrumExit}
 use Rattle.groups.specs.declared.Kind.{Kind}
 use Rattle.groups.specs.declared.Kind.the-variants.{HarmonicGroup}
-use Rattle.groups.specs.Group.{groupAnswer}
+use Rattle.groups.specs.Spans.{Weighted, totalTwiceWeight}
+use Rattle.groups.specs.Group.{valueOver, groupAnswer, groupValues}
 use Rattle.rows.specs.Systems.{isSystem}
-use Rattle.groups.specs.Exact.{exactGroup}
+use Rattle.rows.specs.Editions.{isEdition}
+use Rattle.rows.specs.Setups.{setupOf, isSetup}
+use Rattle.rows.specs.declared.Setup.{Setup}
+use Rattle.groups.specs.Exact.{exactOver, exactGroup}
 use Rattle.rows.specs.declared.Row.{Row}
 use Rattle.observation.specs.Book.{Book}
 use Rattle.observation.specs.Smoothing.{reported}
@@ -29,22 +33,22 @@ use Rattle.verdict.specs.declared.Verdict.{Verdict}
 use Rattle.verdict.specs.declared.Verdict.the-variants.{Within, Close, Over}
 use Rattle.verdict.specs.Question.{asked}
 use Rattle.verdict.specs.Limit.{limitInUnits, peakLimitInUnits}
-use Rattle.accuracy.specs.Distance.{InRange, GroupsNear}
+use Rattle.accuracy.specs.Distance.{InRange, WeightsNear, GroupsNear}
 use Rattle.accuracy.specs.CallList.{CallList, after, state}
 use Rattle.accuracy.specs.Claim.{WorkedList, LBook, UBook, reportedBook, Keeps, observedList}
 use Rattle.observe.specs.Observe.{observeRefusal, observeAnswer}
 use Rattle.accuracy.proofs.Demand3.{demand3}
 use Rattle.exported_windows.specs.Kinds.{kinds, kindWith}
-use Rattle.exported_windows.specs.GroupCalls.{groupCallRefusal, groupCallExit}
+use Rattle.exported_windows.specs.GroupCalls.{groupCallRefusal, groupCallExit, rowCallRefusal, rowCallExit}
 use Rattle.exported_windows.specs.ObserveCall.{observeCallRefusal, observeCallExit}
 use Rattle.exported_records.specs.VerdictCall.{verdictNumber, verdictCallRefusal, verdictCallExit}
 use Rattle.exported_accuracy.specs.Calls.{Call, wordsAfter, listAfter}
 use Rattle.exported_accuracy.specs.Claim.{WordsHold}
 use Rattle.exported_accuracy.proofs.ExportedDemand3.{exported-demand3}
 
--- at 50 Hz and at 60 Hz
-abbrev Both : (ℕ → Type 0) → Type 0
-Both holdsAt = holdsAt 10 × holdsAt 12
+-- at 50 Hz and at 60 Hz, under edition 2 and under A1
+abbrev EachSetup : (Setup → Type 0) → Type 0
+EachSetup P = P (setupOf 10 0) × P (setupOf 12 0) × P (setupOf 10 1) × P (setupOf 12 1)
 
 -- ---- 7 units
 
@@ -52,35 +56,76 @@ Both holdsAt = holdsAt 10 × holdsAt 12
 abbrev Within7 : ℕ → Fraction → Type 0
 Within7 r g = ((r - 7) * (r - 7) * g .den ≤ g .num) × (g .num ≤ (r + 7) * (r + 7) * g .den)
 
+-- any lines, whose weights add up to at most 12
+weights-within-7 :
+    (xs : List Weighted) (window : List ℤ) →
+    totalTwiceWeight xs ≤ 24 →
+    InRange window →
+    Within7 (valueOver xs (lineOf window)) (exactOver xs window)
+unfolding WeightsNear whole square
+weights-within-7 xs window total in-range =
+    let near = demand3 .weights xs window total in-range in
+    (omega (arith, near .not-far-below), omega (arith, near .not-far-above))
+
+-- every group
 within-7 :
     (kind : Kind) (order : ℕ) (window : List ℤ) →
     1 ≤ order →
     order ≤ 40 →
     InRange window →
-    Both (λ system. Within7 (groupAnswer kind system order (linesOf window) .value) (exactGroup kind system order window))
-unfolding GroupsNear isSystem whole square
-within-7 kind order window least most in-range = (at 10 refl, at 12 refl)
+    EachSetup (λ setup.
+    let answer = groupAnswer kind setup order (linesOf window) in
+    (answer .refusal ≡ 0) × Within7 (answer .value) (exactGroup kind setup order window))
+unfolding GroupsNear isSetup isSystem isEdition whole square
+within-7 kind order window least most in-range = (at _ refl, at _ refl, at _ refl, at _ refl)
   where
     at :
-        (system : ℕ) →
-        isSystem system ≡ true →
-        Within7 (groupAnswer kind system order (linesOf window) .value) (exactGroup kind system order window)
-    at system known =
-        let near = demand3 .groups kind system window known in-range order least most .value-near in
-        (omega (arith, near .not-far-below), omega (arith, near .not-far-above))
+        (setup : Setup) →
+        isSetup setup ≡ true →
+        let answer = groupAnswer kind setup order (linesOf window) in
+        (answer .refusal ≡ 0) × Within7 (answer .value) (exactGroup kind setup order window)
+    at setup known =
+        let group = demand3 .groups kind setup window known in-range order least most in
+        let near = group .value-near in
+        (group .answered, (omega (arith, near .not-far-below), omega (arith, near .not-far-above)))
 
 -- the harmonic group (kind 1) that the exported calls leave for a recording, neither refused
 called-within-7 :
-    (recording : List ℤ) (start : ℕ) (buffer : List ℕ) (system order before : ℕ) →
+    (recording : List ℤ) (start : ℕ) (buffer : List ℕ) (setup : Setup) (order before : ℕ) →
     spectrumRefusal recording start buffer ≡ 0 →
-    groupCallRefusal 1 system order (spectrumExit recording start buffer) ≡ 0 →
+    groupCallRefusal 1 setup order (spectrumExit recording start buffer) ≡ 0 →
     Within7
-    (groupCallExit 1 system order (spectrumExit recording start buffer) before)
-    (exactGroup HarmonicGroup system order (windowAt recording start))
+    (groupCallExit 1 setup order (spectrumExit recording start buffer) before)
+    (exactGroup HarmonicGroup setup order (windowAt recording start))
 unfolding whole square kindWith kinds
-called-within-7 recording start buffer system order before taken asked =
-    let near = exported-demand3 .groups recording start buffer 1 system order before taken asked in
+called-within-7 recording start buffer setup order before taken asked =
+    let near = exported-demand3 .groups recording start buffer 1 setup order before taken asked in
     (omega (arith, near .not-far-below), omega (arith, near .not-far-above))
+
+-- the row of harmonic groups that they leave holds the values of the window's lines
+called-row-worked :
+    (recording : List ℤ) (start : ℕ) (buffer : List ℕ) (setup : Setup) (before : List ℕ) →
+    spectrumRefusal recording start buffer ≡ 0 →
+    rowCallRefusal 1 setup (spectrumExit recording start buffer) before ≡ 0 →
+    rowCallExit 1 setup (spectrumExit recording start buffer) before ≡ groupValues HarmonicGroup setup (linesOf (windowAt recording start))
+unfolding kindWith kinds
+called-row-worked recording start buffer setup before taken asked =
+    exported-demand3 .rows recording start buffer 1 setup before taken asked .values
+
+-- ---- the setup
+
+-- the record after any list of calls of the library has the system and the edition that the list began with
+abbrev SetupKept : Kind → List Row → Setup → Type 0
+SetupKept kind rows setup =
+    let list : CallList = record { setup = setup; rows = rows } in
+    WorkedList kind list → after list .setup ≡ setup
+
+setup-kept : (kind : Kind) (rows : List Row) → EachSetup (SetupKept kind rows)
+unfolding isSetup isSystem isEdition
+setup-kept kind rows = (at _ refl, at _ refl, at _ refl, at _ refl)
+  where
+    at : (setup : Setup) → isSetup setup ≡ true → SetupKept kind rows setup
+    at setup known worked = demand3 .lists kind (record { setup = setup; rows = rows }) known worked .same-setup
 
 -- ---- 12 units
 
@@ -93,18 +138,18 @@ Within12 kind list order s =
     (low .num ≤ (s + 12) * low .den) × (s * high .den ≤ high .num + 12 * high .den)
 
 -- after any list of calls of the library
-abbrev ListWithin12 : Kind → List Row → ℕ → ℕ → Type 0
-ListWithin12 kind rows order system =
-    let list : CallList = record { system = system; rows = rows } in
+abbrev ListWithin12 : Kind → List Row → ℕ → Setup → Type 0
+ListWithin12 kind rows order setup =
+    let list : CallList = record { setup = setup; rows = rows } in
     WorkedList kind list → Within12 kind list order (getD (after list .smoothed) (order - 1) 0)
 
-within-12 : (kind : Kind) (rows : List Row) (order : ℕ) → 1 ≤ order → order ≤ 40 → Both (ListWithin12 kind rows order)
-unfolding isSystem whole _+ᶠ_ bookAt
-within-12 kind rows order least most = (at 10 refl, at 12 refl)
+within-12 : (kind : Kind) (rows : List Row) (order : ℕ) → 1 ≤ order → order ≤ 40 → EachSetup (ListWithin12 kind rows order)
+unfolding isSetup isSystem isEdition whole _+ᶠ_ bookAt
+within-12 kind rows order least most = (at _ refl, at _ refl, at _ refl, at _ refl)
   where
-    at : (system : ℕ) → isSystem system ≡ true → ListWithin12 kind rows order system
-    at system known worked l u =
-        let holds = demand3 .lists kind (record { system = system; rows = rows }) known worked in
+    at : (setup : Setup) → isSetup setup ≡ true → ListWithin12 kind rows order setup
+    at setup known worked l u =
+        let holds = demand3 .lists kind (record { setup = setup; rows = rows }) known worked in
         let held = ap (λ (book : Book reported). book .smoothed) (holds .same-books order least most) in
         rw held (omega (arith, holds .smoothed-low order least most l), omega (arith, holds .smoothed-high order least most u))
 
@@ -183,13 +228,13 @@ module _ (kind : Kind) (list : CallList) (words : List ℕ) (holds : WordsHold k
 
 module _
     (kind : Kind) (words : List ℕ) (calls : List Call) (list : CallList)
-    (whole-record : length words ≡ 122) (came : listAfter none calls ≡ some list) (worked : WorkedList kind list)
+    (whole-record : length words ≡ 123) (came : listAfter none calls ≡ some list) (worked : WorkedList kind list)
   where
     holds : WordsHold kind list (wordsAfter words calls)
     holds = exported-demand3 .lists kind words whole-record calls list came worked
 
     words-within-12 :
-        (order : ℕ) → 1 ≤ order → order ≤ 40 → Within12 kind list order (getD (wordsAfter words calls) (2 + (order - 1)) 0)
+        (order : ℕ) → 1 ≤ order → order ≤ 40 → Within12 kind list order (getD (wordsAfter words calls) (3 + (order - 1)) 0)
     unfolding whole _+ᶠ_
     words-within-12 order least most l u =
         (omega (arith, holds .smoothed-low order least most l), omega (arith, holds .smoothed-high order least most u))
@@ -203,44 +248,51 @@ module _
 
 -- ---- an observation
 
--- the record that `observe` answers, of any kind and system
+-- it holds as many windows as were asked for
+observed-windows :
+    (kind : Kind) (setup : Setup) (recording : List ℤ) (start windows : ℕ) →
+    observeRefusal setup recording start windows ≡ 0 →
+    observeAnswer kind setup recording start windows .observation .windows ≡ windows
+observed-windows kind setup recording start windows accepted = demand3 .observed kind setup recording start windows accepted .windows-held
+
+-- the record that `observe` answers, of any kind and setup
 observed-within-12 :
-    (kind : Kind) (system : ℕ) (recording : List ℤ) (start windows order : ℕ) →
-    observeRefusal system recording start windows ≡ 0 →
+    (kind : Kind) (setup : Setup) (recording : List ℤ) (start windows order : ℕ) →
+    observeRefusal setup recording start windows ≡ 0 →
     1 ≤ order →
     order ≤ 40 →
-    Within12 kind (observedList kind system recording start windows) order
-    (getD (observeAnswer kind system recording start windows .observation .smoothed) (order - 1) 0)
+    Within12 kind (observedList kind setup recording start windows) order
+    (getD (observeAnswer kind setup recording start windows .observation .smoothed) (order - 1) 0)
 unfolding whole _+ᶠ_ bookAt
-observed-within-12 kind system recording start windows order accepted least most l u =
-    let observed = demand3 .observed kind system recording start windows accepted in
+observed-within-12 kind setup recording start windows order accepted least most l u =
+    let observed = demand3 .observed kind setup recording start windows accepted in
     let held = ap (λ (book : Book reported). book .smoothed) (observed .holds .same-books order least most) in
     rw (observed .same-record, held)
     (omega (arith, observed .holds .smoothed-low order least most l), omega (arith, observed .holds .smoothed-high order least most u))
 
 -- the words that kifsang_observe leaves, of harmonic groups (kind 1), and the verdicts that are then asked
 module _
-    (recording : List ℤ) (start windows system : ℕ) (before : List ℕ)
-    (accepted : observeCallRefusal 1 system recording start windows before ≡ 0)
+    (recording : List ℤ) (start windows : ℕ) (setup : Setup) (before : List ℕ)
+    (accepted : observeCallRefusal 1 setup recording start windows before ≡ 0)
   where
     observed-words-within-12 :
         (order : ℕ) → 1 ≤ order → order ≤ 40 →
-        Within12 HarmonicGroup (observedList HarmonicGroup system recording start windows) order
-        (getD (observeCallExit 1 system recording start windows before) (2 + (order - 1)) 0)
+        Within12 HarmonicGroup (observedList HarmonicGroup setup recording start windows) order
+        (getD (observeCallExit 1 setup recording start windows before) (3 + (order - 1)) 0)
     unfolding whole _+ᶠ_ kindWith kinds
     observed-words-within-12 order least most l u =
-        let held = exported-demand3 .observed recording start 1 system windows before accepted in
+        let held = exported-demand3 .observed recording start 1 setup windows before accepted in
         (omega (arith, held .smoothed-low order least most l), omega (arith, held .smoothed-high order least most u))
 
     observed-verdict-number :
         (k number : ℕ) →
-        let words = observeCallExit 1 system recording start windows before in
+        let words = observeCallExit 1 setup recording start windows before in
         EachFigure (λ letter order num den.
         verdictCallRefusal words (asked order letter k) ≡ 0 →
-        NumberSays HarmonicGroup (observedList HarmonicGroup system recording start windows) order num den k
+        NumberSays HarmonicGroup (observedList HarmonicGroup setup recording start windows) order num den k
         (verdictCallExit words (asked order letter k) number))
     unfolding kindWith kinds
     observed-verdict-number =
-        called-number-says HarmonicGroup (observedList HarmonicGroup system recording start windows)
-        (observeCallExit 1 system recording start windows before)
-        (exported-demand3 .observed recording start 1 system windows before accepted)
+        called-number-says HarmonicGroup (observedList HarmonicGroup setup recording start windows)
+        (observeCallExit 1 setup recording start windows before)
+        (exported-demand3 .observed recording start 1 setup windows before accepted)

@@ -1,4 +1,4 @@
--- Every row of the table of worked numbers holds. The pulse's lines come from the law of a sum with one sample that is not 0; the rest is computed.
+-- Every row of the two tables of worked numbers holds. The pulse's lines come from the law of a sum with one sample that is not 0; the rest is computed.
 use mathlib.Core.Path.{_≡_, refl, fun-ext, _∙_}
 use mathlib.Core.Bool.{true}
 use Prim.Native.Nat.{ℕ, _<_}
@@ -17,11 +17,15 @@ use Rattle.spectrum.specs.Line.{lineCount, lineOf, linesOf}
 use Rattle.spectrum.proofs.Lines.{getD-linesOf}
 use Rattle.spectrum.proofs.Pulse as Pulse
 use Rattle.spectrum.proofs.Pulse.{pulse-line}
-use Rattle.groups.specs.Spans.{spanOf, weightsIn, weightsOf, weightedSum}
+use Rattle.groups.specs.Spans.{spanOf, groupedAs, weightsIn, weightsOf, weightedSum}
+use Rattle.groups.proofs.GroupEditions.{weightsOf-above}
 use Rattle.groups.specs.declared.Kind.{Kind}
 use Rattle.groups.specs.declared.Kind.the-variants.{Component, HarmonicGroup, HarmonicSubgroup, InterharmonicGroup, InterharmonicCentredSubgroup}
-use Rattle.groups.specs.Group.{groupValue, groupAnswer}
+use Rattle.groups.specs.Group.{valueOver, groupValue, groupAnswer}
 use Rattle.rows.specs.Systems.{isSystem}
+use Rattle.rows.specs.Editions.{isEdition}
+use Rattle.rows.specs.Setups.{setupOf, isSetup, sameSetup}
+use Rattle.rows.specs.declared.Setup.{Setup}
 use Rattle.rows.specs.Orders.{isOrder}
 use Rattle.observation.specs.Book.{smoothedNext, bookStep}
 use Rattle.observation.specs.Smoothing.{smoothedValue}
@@ -40,7 +44,7 @@ use Rattle.columns.specs.Column.{areDigits, isWhole, placeValue, wholeNumber, n
 use Rattle.columns.specs.Calls.{columnReadAnswer}
 use Rattle.accuracy.specs.Distance.{InRange}
 use Rattle.accuracy.proofs.GroupDistance.{lines-accepted, lines-of-group}
-use Rattle.worked_numbers.specs.Cases.{pulse, rowOf, afterRows, cases, Holds}
+use Rattle.worked_numbers.specs.Cases.{pulse, rowOf, afterRows, groupUnderA1, cases, casesUnderA1, Holds}
 
 -- every line of the pulse
 line-of-pulse : (k : ℕ) → lineOf pulse k ≡ 4000000
@@ -54,22 +58,35 @@ pulse-in-range : InRange pulse
 unfolding pulse Pulse.pulse
 pulse-in-range = record { whole-window = refl; samples = Pulse.pulse-in-range }
 
--- the pulse's value of a kind at every order, from the root of a sum over lines that are all alike
+-- the pulse's value of a kind at an order, from the root of a sum over lines that are all alike
 pulse-group :
-    (kind : Kind) (system value : ℕ) → isSystem system ≡ true →
-    ((order : ℕ) → rootOf (weightedSum (λ k. 4000000) (weightsOf kind system order)) ≡ value) → (order : ℕ) →
-    isOrder order ≡ true → groupAnswer kind system order (linesOf pulse) ≡ answer noRefusal value
-unfolding groupAnswer groupValue
-pulse-group kind system value known alike order known-order =
+    (kind : Kind) (setup : Setup) (order value : ℕ) → isSetup setup ≡ true →
+    valueOver (weightsOf kind setup order) (λ k. 4000000) ≡ value →
+    isOrder order ≡ true → groupAnswer kind setup order (linesOf pulse) ≡ answer noRefusal value
+unfolding groupAnswer groupValue valueOver
+pulse-group kind setup order value known alike known-order =
     rw (
-      lines-accepted system order pulse known known-order pulse-in-range,
-      lines-of-group kind system order pulse known known-order,
+      lines-accepted setup order pulse known known-order pulse-in-range,
+      lines-of-group kind setup order pulse known known-order,
       fun-ext line-of-pulse,
-      alike order,
+      alike,
     )
 
+-- under A1: at order 1, and at every other, where the lines are those of document 01's table
+pulse-under-a1 :
+    (kind : Kind) (system first value : ℕ) → isSetup (setupOf system 1) ≡ true →
+    valueOver (weightsOf kind (setupOf system 1) 1) (λ k. 4000000) ≡ first →
+    ((order : ℕ) → valueOver (weightsIn (spanOf kind system order)) (λ k. 4000000) ≡ value) →
+    Holds (groupUnderA1 kind system first value)
+unfolding Holds isOrder
+pulse-under-a1 kind system first value known at-first alike = (
+  pulse-group kind (setupOf system 1) 1 first known at-first refl,
+  λ order known-order other.
+      pulse-group kind (setupOf system 1) order value known (rw (weightsOf-above kind system 1 order other) (alike order)) known-order,
+)
+
 pub worked-numbers : Everywhere Holds cases
-unfolding cases Holds tableEntry nearest quarterSine denominator added takenAway term factorial isSystem rootOf largest spanOf weightsIn weightedSum sumOver tabulate anyOf rowOf afterRows recordAfter emptyRecord freshRefusal freshAnswer bookAt nextBook withRow rowChecks addRowRefusal addRowAnswer noneAbove allZero isSound smoothedNext bookStep smoothedValue ownFigures figureIn limitOf classALimit isClass classWith letterOf overOrder limitInUnits peakLimitInUnits raised atMost isWithin isOver averageOf peakOf combined verdictIn verdictRefusal verdictAnswer whole times divide bytesOf areDigits isWhole placeValue wholeNumber negativeNumber signedNumber afterBlanks columnNumber columnReadAnswer
+unfolding cases Holds tableEntry nearest quarterSine denominator added takenAway term factorial isSetup isSystem isEdition sameSetup valueOver rootOf largest spanOf groupedAs weightsIn weightedSum sumOver tabulate anyOf rowOf afterRows recordAfter emptyRecord freshRefusal freshAnswer bookAt nextBook withRow rowChecks addRowRefusal addRowAnswer noneAbove allZero isSound smoothedNext bookStep smoothedValue ownFigures figureIn limitOf classALimit isClass classWith letterOf overOrder limitInUnits peakLimitInUnits raised atMost isWithin isOver averageOf peakOf combined verdictIn verdictRefusal verdictAnswer whole times divide bytesOf areDigits isWhole placeValue wholeNumber negativeNumber signedNumber afterBlanks columnNumber columnReadAnswer
 worked-numbers = (
   refl,
   (
@@ -79,30 +96,64 @@ worked-numbers = (
       (
         pulse-line-at,
         (
-          pulse-group Component 10 2828 refl (λ h. refl),
+          λ order. pulse-group Component (setupOf 10 0) order 2828 refl refl,
           (
-            pulse-group Component 12 2828 refl (λ h. refl),
+            λ order. pulse-group Component (setupOf 12 0) order 2828 refl refl,
             (
-              pulse-group HarmonicSubgroup 10 4898 refl (λ h. refl),
+              λ order. pulse-group HarmonicSubgroup (setupOf 10 0) order 4898 refl refl,
               (
-                pulse-group HarmonicSubgroup 12 4898 refl (λ h. refl),
+                λ order. pulse-group HarmonicSubgroup (setupOf 12 0) order 4898 refl refl,
                 (
-                  pulse-group HarmonicGroup 10 8944 refl (λ h. refl),
+                  λ order. pulse-group HarmonicGroup (setupOf 10 0) order 8944 refl refl,
                   (
-                    pulse-group HarmonicGroup 12 9797 refl (λ h. refl),
+                    λ order. pulse-group HarmonicGroup (setupOf 12 0) order 9797 refl refl,
                     (
-                      pulse-group InterharmonicGroup 10 8485 refl (λ h. refl),
+                      λ order. pulse-group InterharmonicGroup (setupOf 10 0) order 8485 refl refl,
                       (
-                        pulse-group InterharmonicGroup 12 9380 refl (λ h. refl),
+                        λ order. pulse-group InterharmonicGroup (setupOf 12 0) order 9380 refl refl,
                         (
-                          pulse-group InterharmonicCentredSubgroup 10 7483 refl (λ h. refl),
+                          λ order. pulse-group InterharmonicCentredSubgroup (setupOf 10 0) order 7483 refl refl,
                           (
-                            pulse-group InterharmonicCentredSubgroup 12 8485 refl (λ h. refl),
+                            λ order. pulse-group InterharmonicCentredSubgroup (setupOf 12 0) order 8485 refl refl,
                             (refl, (refl, (refl, (refl, (refl, (refl, (refl, (refl, (refl, tt))))))))),
                           ),
                         ),
                       ),
                     ),
+                  ),
+                ),
+              ),
+            ),
+          ),
+        ),
+      ),
+    ),
+  ),
+)
+
+pub worked-under-a1 : Everywhere Holds casesUnderA1
+unfolding casesUnderA1 isSetup isSystem isEdition valueOver rootOf largest spanOf groupedAs weightsIn weightedSum sumOver tabulate
+worked-under-a1 = (
+  pulse-under-a1 HarmonicGroup 10 2828 8944 refl refl (λ order. refl),
+  (
+    pulse-under-a1 HarmonicGroup 12 2828 9797 refl refl (λ order. refl),
+    (
+      pulse-under-a1 Component 10 2828 2828 refl refl (λ order. refl),
+      (
+        pulse-under-a1 Component 12 2828 2828 refl refl (λ order. refl),
+        (
+          pulse-under-a1 HarmonicSubgroup 10 4898 4898 refl refl (λ order. refl),
+          (
+            pulse-under-a1 HarmonicSubgroup 12 4898 4898 refl refl (λ order. refl),
+            (
+              pulse-under-a1 InterharmonicGroup 10 8485 8485 refl refl (λ order. refl),
+              (
+                pulse-under-a1 InterharmonicGroup 12 9380 9380 refl refl (λ order. refl),
+                (
+                  pulse-under-a1 InterharmonicCentredSubgroup 10 7483 7483 refl refl (λ order. refl),
+                  (
+                    pulse-under-a1 InterharmonicCentredSubgroup 12 8485 8485 refl refl (λ order. refl),
+                    tt,
                   ),
                 ),
               ),

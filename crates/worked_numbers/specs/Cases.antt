@@ -1,5 +1,5 @@
--- The worked numbers of document 01 that are marked •, as one table. A row names what is asked and the number
--- that document 01 prints; `Holds` says what it claims, of the definitions that the contracts cite.
+-- The worked numbers of document 01 that are marked •, as one table, and those of the pulse under A1 (document 02, card 7).
+-- A row names what is asked and the number that it comes to; `Holds` says what it claims, of the definitions that the contracts cite.
 use mathlib.Core.Path.{_≡_}
 use mathlib.Core.Bool.{true}
 use mathlib.Core.List.{List, [], _∷_}
@@ -15,6 +15,7 @@ use Rattle.groups.specs.declared.Kind.{Kind}
 use Rattle.groups.specs.declared.Kind.the-variants.{Component, HarmonicGroup, HarmonicSubgroup, InterharmonicGroup, InterharmonicCentredSubgroup}
 use Rattle.groups.specs.Group.{groupAnswer}
 use Rattle.rows.specs.Orders.{orderCount, isOrder}
+use Rattle.rows.specs.Setups.{setupOf}
 use Rattle.rows.specs.declared.Row.{Row}
 use Rattle.observation.specs.declared.Observation.{Observation}
 use Rattle.observation.specs.Calls.{freshAnswer}
@@ -31,21 +32,23 @@ use Rattle.columns.specs.Calls.{columnReadAnswer}
 unfoldable pub pulse : List ℤ
 pulse = pos 1000 ∷ replicate (windowLength - 1) (pos 0)
 
--- a row of system 10 with one value at every order
+-- a row of system 10 under edition 2 with one value at every order
 unfoldable pub rowOf : ℕ → Row
-rowOf value = record { system = 10; values = replicate orderCount value }
+rowOf value = record { setup = setupOf 10 0; values = replicate orderCount value }
 
 -- the record after rows with these values
 unfoldable pub afterRows : List Row → Observation
-afterRows rows = recordAfter (freshAnswer 10 .observation) rows
+afterRows rows = recordAfter (freshAnswer (setupOf 10 0) .observation) rows
 
 pub data Case : Type 0 where
   -- an entry of the table, and its number
   entry : ℕ → ℕ → Case
   -- the number of every line of the pulse
   everyLine : ℕ → Case
-  -- a kind, a system, and the pulse's value at every order
+  -- a kind, a system, and the pulse's value at every order under edition 2
   group : Kind → ℕ → ℕ → Case
+  -- a kind, a system, and the pulse's values under A1 at order 1 and at every other
+  groupUnderA1 : Kind → ℕ → ℕ → ℕ → Case
   -- two rows, and the smoothed value after them
   smoothed : ℕ → ℕ → ℕ → Case
   -- the value of one window at order 3, and the verdict at K = 1000000 in class A
@@ -59,7 +62,10 @@ unfoldable pub Holds : Case → Type 0
 Holds (entry m number) = tableEntry m ≡ number
 Holds (everyLine number) = (k : ℕ) → k < lineCount → getD (linesOf pulse) k 0 ≡ number
 Holds (group kind system value) =
-    (order : ℕ) → isOrder order ≡ true → groupAnswer kind system order (linesOf pulse) ≡ answer noRefusal value
+    (order : ℕ) → isOrder order ≡ true → groupAnswer kind (setupOf system 0) order (linesOf pulse) ≡ answer noRefusal value
+Holds (groupUnderA1 kind system first value) =
+    (groupAnswer kind (setupOf system 1) 1 (linesOf pulse) ≡ answer noRefusal first) ×
+    ((order : ℕ) → isOrder order ≡ true → (order ≡ 1 → ⊥) → groupAnswer kind (setupOf system 1) order (linesOf pulse) ≡ answer noRefusal value)
 Holds (smoothed first second value) =
     afterRows (rowOf first ∷ rowOf second ∷ []) .smoothed ≡ replicate orderCount value
 Holds (verdict value given) = verdictAnswer (afterRows (rowOf value ∷ [])) (asked 3 65 1000000) ≡ Given given
@@ -101,4 +107,19 @@ cases =
     column "      -7" (negsuc 6) ∷
     noColumn "      07" ∷
     noColumn "      -0" ∷
+    []
+
+-- under A1 (document 02, card 7): the harmonic group of order 1 is its component alone, the others and the other kinds are as under edition 2
+unfoldable pub casesUnderA1 : List Case
+casesUnderA1 =
+    groupUnderA1 HarmonicGroup 10 2828 8944 ∷
+    groupUnderA1 HarmonicGroup 12 2828 9797 ∷
+    groupUnderA1 Component 10 2828 2828 ∷
+    groupUnderA1 Component 12 2828 2828 ∷
+    groupUnderA1 HarmonicSubgroup 10 4898 4898 ∷
+    groupUnderA1 HarmonicSubgroup 12 4898 4898 ∷
+    groupUnderA1 InterharmonicGroup 10 8485 8485 ∷
+    groupUnderA1 InterharmonicGroup 12 9380 9380 ∷
+    groupUnderA1 InterharmonicCentredSubgroup 10 7483 7483 ∷
+    groupUnderA1 InterharmonicCentredSubgroup 12 8485 8485 ∷
     []

@@ -1,13 +1,17 @@
-//! The recordings of `examples/recordings`, judged by the core in both classes as the script beside them says.
+//! The recordings of `examples/recordings`, judged by the core in both classes as the script beside them says,
+//! under each edition. Their records are the second program's.
 
-use crate::Tally;
-use kifsang::{Kind, Verdict, CLASS_A, CLASS_B, ORDER_COUNT, RECORD_WORDS, WINDOW_LENGTH};
+use crate::records::words;
+use crate::{setup, Tally};
+use kifsang::{Kind, Verdict, CLASS_A, CLASS_B, EDITION_2, EDITION_A1};
+use kifsang::{ORDER_COUNT, RECORD_WORDS, WINDOW_LENGTH};
+use reference::observe::observe;
 
 /// 4,000 counts per ampere, 4,096 units in a count.
 const UNITS_PER_AMPERE: u32 = 4_000 * 4_096;
 
-/// The orders 2..40 that are over their limit in a class, and those that are close.
-fn over_and_close(name: &str, class_letter: u8) -> (Vec<u32>, Vec<u32>) {
+/// The record of a recording under an edition.
+fn record_of(tally: &mut Tally, name: &str, edition: u32) -> [u64; RECORD_WORDS] {
     let path = format!("examples/recordings/{name}.txt");
     let text = std::fs::read(path).expect("the recording");
     let numbers: Vec<i64> = text
@@ -23,10 +27,29 @@ fn over_and_close(name: &str, class_letter: u8) -> (Vec<u32>, Vec<u32>) {
         0,
         windows,
         system,
+        edition,
         Kind::HarmonicGroup,
         &mut record,
     )
     .expect("a record");
+    let kind = reference::groups::Kind::HarmonicGroup;
+    let expected = observe(&samples, 0, windows, setup(system, edition), kind);
+    tally.same(
+        name,
+        record.to_vec(),
+        words(&expected.expect("a record of the second program")),
+    );
+    record
+}
+
+/// The orders 2..40 that are over their limit in a class, and those that are close.
+fn over_and_close(
+    tally: &mut Tally,
+    name: &str,
+    edition: u32,
+    class_letter: u8,
+) -> (Vec<u32>, Vec<u32>) {
+    let record = record_of(tally, name, edition);
     let judged = |verdict| {
         let given = |order| kifsang::verdict(&record, order, class_letter, UNITS_PER_AMPERE);
         (2..=ORDER_COUNT as u32)
@@ -37,17 +60,19 @@ fn over_and_close(name: &str, class_letter: u8) -> (Vec<u32>, Vec<u32>) {
 }
 
 pub fn compare(tally: &mut Tally) {
-    let [a, b] = [CLASS_A, CLASS_B].map(|class_letter| {
-        for name in ["heater_passes", "dimmer"] {
-            let none = (Vec::new(), Vec::new());
-            tally.same(name, over_and_close(name, class_letter), none);
-        }
-        let (over, close) = over_and_close("supply_fails", class_letter);
-        let several_odd = over.len() > 1 && over.iter().all(|order| order % 2 == 1);
-        tally.same("the supply's odd orders are over", several_odd, true);
-        tally.same("the supply's other orders", close, Vec::new());
-        over
-    });
-    let fewer = b.len() < a.len() && b.iter().all(|order| a.contains(order));
-    tally.same("the supply is over at fewer orders in class B", fewer, true);
+    for edition in [EDITION_2, EDITION_A1] {
+        let [a, b] = [CLASS_A, CLASS_B].map(|class_letter| {
+            for name in ["heater_passes", "dimmer"] {
+                let judged = over_and_close(tally, name, edition, class_letter);
+                tally.same(name, judged, (Vec::new(), Vec::new()));
+            }
+            let (over, close) = over_and_close(tally, "supply_fails", edition, class_letter);
+            let several_odd = over.len() > 1 && over.iter().all(|order| order % 2 == 1);
+            tally.same("the supply's odd orders are over", several_odd, true);
+            tally.same("the supply's other orders", close, Vec::new());
+            over
+        });
+        let fewer = b.len() < a.len() && b.iter().all(|order| a.contains(order));
+        tally.same("the supply is over at fewer orders in class B", fewer, true);
+    }
 }

@@ -1,8 +1,8 @@
 //! Compares the proved core, through its C interface, with the second program of `tests/reference`,
-//! call by call: spectra and parts of them, all kinds, orders and systems, distortion, records, windows
-//! back to back, limits, verdicts, columns and listings, on valid and on damaged arguments. Every buffer
-//! is compared after every call, refused ones too; the numbers that the wrappers' names stand for are
-//! compared with figures first. With the path of the built `harmlist` as its argument it compares that
+//! call by call: spectra and parts of them, all kinds, orders, systems and editions, distortion, records,
+//! windows back to back, limits, verdicts, columns and listings, on valid and on damaged arguments. Every
+//! buffer is compared after every call, refused ones too; the numbers that the wrappers' names stand for
+//! are compared with figures first. With the path of the built `harmlist` as its argument it compares that
 //! program instead, byte for byte. The seed is fixed, so that a run can be repeated.
 
 mod columns;
@@ -13,6 +13,8 @@ mod names;
 mod observations;
 mod records;
 mod windows;
+
+use reference::rows::Setup;
 
 /// Counts comparisons and ends the program at the first that fails.
 pub struct Tally {
@@ -39,6 +41,22 @@ pub fn numbers<T, U>(
         of_core,
         u32::from(reference::refusals::number_or_zero(reference)),
     )
+}
+
+/// Both editions, and numbers of none.
+pub const EDITIONS: [u32; 4] = [kifsang::EDITION_2, kifsang::EDITION_A1, 2, u32::MAX];
+
+/// A system and an edition as the second program takes them.
+pub fn setup(system: u32, edition: u32) -> Setup {
+    Setup {
+        system: system.into(),
+        edition: edition.into(),
+    }
+}
+
+/// The same as the wrappers take them.
+pub fn system_and_edition(setup: Setup) -> (u32, u32) {
+    (setup.system as u32, setup.edition as u32)
 }
 
 const SEED: u64 = 1;

@@ -50,12 +50,15 @@ pub fn compare() {
         PEAK_PERCENT 150
         CLASS_A 65
         CLASS_B 66
+        EDITION_2 0
+        EDITION_A1 1
         SYSTEM_PLACE 0
-        WINDOWS_PLACE 1
-        SMOOTHED_PLACE 2
-        SUM_PLACE 42
-        PEAK_PLACE 82
-        RECORD_WORDS 122
+        EDITION_PLACE 1
+        WINDOWS_PLACE 2
+        SMOOTHED_PLACE 3
+        SUM_PLACE 43
+        PEAK_PLACE 83
+        RECORD_WORDS 123
     };
     let refusals = refusals! {
         UNKNOWN_SYSTEM 1
@@ -65,7 +68,7 @@ pub fn compare() {
         LINE_TOO_LARGE 5
         ORDER_OUT_OF_RANGE 6
         UNSOUND_RECORD 7
-        OTHER_SYSTEM 8
+        OTHER_SETUP 8
         RECORD_FULL 9
         NO_WINDOW 10
         SCALE_OUT_OF_RANGE 11
@@ -73,6 +76,7 @@ pub fn compare() {
         NOT_A_COLUMN 13
         WRONG_BUFFER_LENGTH 14
         UNKNOWN_CLASS 15
+        UNKNOWN_EDITION 19
         UNKNOWN_KIND 101
         WRONG_WORD_COUNT 102
     };

@@ -2,11 +2,12 @@
 
 use crate::records::words;
 use crate::windows::KINDS;
-use crate::{numbers, Tally};
+use crate::{numbers, setup, system_and_edition, Tally, EDITIONS};
 use kifsang::{Refusal, LINE_COUNT, MOST_WINDOWS, ORDER_COUNT, RECORD_WORDS, WINDOW_LENGTH};
 use reference::groups::Kind;
 use reference::observe::observe;
 use reference::random::Random;
+use reference::rows::Setup;
 use reference::signals;
 
 /// What every word of a record holds before a call.
@@ -17,7 +18,7 @@ const BEFORE: u64 = 0xABCD;
 struct Asked {
     start: usize,
     windows: usize,
-    system: u32,
+    setup: Setup,
     kind: usize,
 }
 
@@ -26,11 +27,12 @@ fn chain(recording: &[i32], asked: Asked) -> Result<Vec<u64>, Refusal> {
     let mut lines = [0; LINE_COUNT];
     let mut row = [0; ORDER_COUNT];
     let mut record = vec![BEFORE; RECORD_WORDS];
-    kifsang::fresh_record(asked.system, &mut record)?;
+    let (system, edition) = system_and_edition(asked.setup);
+    kifsang::fresh_record(system, edition, &mut record)?;
     for window in 0..asked.windows {
         kifsang::spectrum(recording, asked.start + window * WINDOW_LENGTH, &mut lines)?;
-        kifsang::row(KINDS[asked.kind], asked.system, &lines, &mut row)?;
-        kifsang::add_row(&mut record, asked.system, &row)?;
+        kifsang::row(KINDS[asked.kind], system, edition, &lines, &mut row)?;
+        kifsang::add_row(&mut record, system, edition, &row)?;
     }
     Ok(record)
 }
@@ -39,12 +41,21 @@ fn compare_observe(tally: &mut Tally, recording: &[i32], asked: Asked) {
     let Asked {
         start,
         windows,
-        system,
+        setup,
         kind,
     } = asked;
     let mut core = vec![BEFORE; RECORD_WORDS];
-    let answer = kifsang::observe(recording, start, windows, system, KINDS[kind], &mut core);
-    let expected = observe(recording, start, windows, system.into(), Kind::ALL[kind]);
+    let (system, edition) = system_and_edition(setup);
+    let answer = kifsang::observe(
+        recording,
+        start,
+        windows,
+        system,
+        edition,
+        KINDS[kind],
+        &mut core,
+    );
+    let expected = observe(recording, start, windows, setup, Kind::ALL[kind]);
     let (number, refusal) = numbers(&answer, &expected);
     let what = format!("{asked:?} of {} samples", recording.len());
     tally.same(&what, number, refusal);
@@ -54,17 +65,17 @@ fn compare_observe(tally: &mut Tally, recording: &[i32], asked: Asked) {
     tally.same(&what, answer.map(|()| core), one_by_one);
 }
 
-/// All kinds and both systems, from a start and for a count of windows.
+/// All kinds, both systems and both editions, from a start and for a count of windows.
 fn compare_kinds(tally: &mut Tally, recording: &[i32], start: usize, windows: usize) {
     for kind in 0..KINDS.len() {
-        for system in [10, 12] {
+        for setup in Setup::ALL {
             compare_observe(
                 tally,
                 recording,
                 Asked {
                     start,
                     windows,
-                    system,
+                    setup,
                     kind,
                 },
             );
@@ -82,9 +93,9 @@ fn with_sample(recording: &[i32], place: usize, sample: i32) -> Vec<i32> {
 /// A slice that is no record, which comes before all else; the other calls have theirs in `records`.
 fn compare_wrong_word_counts(tally: &mut Tally) {
     for count in [0, RECORD_WORDS - 1, RECORD_WORDS + 1] {
-        for system in [10, 11] {
+        for (system, edition) in [(10, 0), (10, 2), (11, 1)] {
             let mut words = vec![BEFORE; count];
-            let answer = kifsang::observe(&[], 0, 1, system, KINDS[0], &mut words);
+            let answer = kifsang::observe(&[], 0, 1, system, edition, KINDS[0], &mut words);
             tally.same("observe without a record", answer, Err(Refusal(102)));
             tally.same("the words after it", words, vec![BEFORE; count]);
         }
@@ -122,14 +133,21 @@ pub fn compare(tally: &mut Tally, seed: u64) {
             let asked = Asked {
                 start: 0,
                 windows,
-                system: 10,
+                setup: Setup::ALL[window % 4],
                 kind: place % KINDS.len(),
             };
             for windows in [window, window + 1, windows + 1] {
                 compare_observe(tally, &bad, Asked { windows, ..asked });
             }
-            for system in [0, 11] {
-                compare_observe(tally, &bad, Asked { system, ..asked });
+            for edition in EDITIONS {
+                for system in [0, 11] {
+                    let setup = setup(system, edition);
+                    compare_observe(tally, &bad, Asked { setup, ..asked });
+                }
+            }
+            for edition in &EDITIONS[2..] {
+                let setup = setup(12, *edition);
+                compare_observe(tally, &bad, Asked { setup, ..asked });
             }
         }
     }
@@ -149,21 +167,15 @@ pub fn compare(tally: &mut Tally, seed: u64) {
                 usize::MAX,
             ] {
                 for start in [0, 1, WINDOW_LENGTH, usize::MAX] {
-                    let asked = Asked {
-                        start,
-                        windows,
-                        system: 12,
-                        kind: 3,
-                    };
-                    compare_observe(tally, &short, asked);
-                    compare_observe(
-                        tally,
-                        &short,
-                        Asked {
-                            system: 13,
-                            ..asked
-                        },
-                    );
+                    for (system, edition) in [(12, 0), (12, 1), (13, 0), (12, 2), (13, 2)] {
+                        let asked = Asked {
+                            start,
+                            windows,
+                            setup: setup(system, edition),
+                            kind: 1,
+                        };
+                        compare_observe(tally, &short, asked);
+                    }
                 }
             }
             if let Some(last) = short.last_mut() {
@@ -175,7 +187,7 @@ pub fn compare(tally: &mut Tally, seed: u64) {
                         Asked {
                             start: 0,
                             windows,
-                            system: 12,
+                            setup: Setup::edition_a1(12),
                             kind: 0,
                         },
                     );

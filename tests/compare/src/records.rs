@@ -1,11 +1,11 @@
 //! Observation records and verdicts, sound and not.
 
-use crate::{numbers, Tally};
-use kifsang::{CLASS_A, CLASS_B, ORDER_COUNT, RECORD_WORDS};
+use crate::{numbers, setup, system_and_edition, Tally, EDITIONS};
+use kifsang::{CLASS_A, CLASS_B, EDITION_2, ORDER_COUNT, RECORD_WORDS};
 use reference::limits::order_limit;
 use reference::observation::{add_row, fresh_record, Observation};
 use reference::random::Random;
-use reference::rows::Row;
+use reference::rows::{Row, Setup};
 use reference::verdict::{order_verdict, Question, Verdict};
 
 /// Both classes, and letters of none.
@@ -13,7 +13,8 @@ const CLASS_LETTERS: [u8; 5] = [CLASS_A, CLASS_B, 0, b'C', b'b'];
 
 /// The words of a record, in the interface's order.
 pub fn words(record: &Observation) -> Vec<u64> {
-    let mut words = vec![record.system, record.windows];
+    let Setup { system, edition } = record.setup;
+    let mut words = vec![system, edition, record.windows];
     words.extend(record.smoothed);
     words.extend(record.sum);
     words.extend(record.peak);
@@ -22,7 +23,8 @@ pub fn words(record: &Observation) -> Vec<u64> {
 
 fn compare_add_row(tally: &mut Tally, record: &Observation, row: &Row) -> Observation {
     let mut core = words(record);
-    let answer = kifsang::add_row(&mut core, row.system as u32, &row.values);
+    let (system, edition) = system_and_edition(row.setup);
+    let answer = kifsang::add_row(&mut core, system, edition, &row.values);
     let (next, refusal) = add_row(record.clone(), row);
     let expected = refusal.map_or(0, |refusal| u32::from(refusal.number()));
     tally.same(
@@ -89,7 +91,7 @@ fn compare_near(
 ) {
     for _ in 0..20 {
         let peak = (value + random.below(40)).saturating_sub(20);
-        let (mut record, _) = fresh_record(10);
+        let (mut record, _) = fresh_record(random_setup(random));
         record.windows = 1 + random.below(45_000);
         let place = order as usize - 1;
         record.sum[place] = record.windows * (peak / part) + random.below(record.windows);
@@ -114,21 +116,38 @@ fn compare_about_limits(tally: &mut Tally, random: &mut Random) {
     }
 }
 
-fn random_row(random: &mut Random, system: u64) -> Row {
+fn random_setup(random: &mut Random) -> Setup {
+    Setup::ALL[random.below(4) as usize]
+}
+
+/// The setup of a row: mostly the record's, else with another system, another edition or both, which may
+/// be none.
+fn row_setup(random: &mut Random, own: Setup) -> Setup {
+    let mut setup = own;
+    if random.below(8) == 0 {
+        setup.system = random.below(14);
+    }
+    if random.below(8) == 0 {
+        setup.edition = random.below(3);
+    }
+    setup
+}
+
+fn random_row(random: &mut Random, setup: Setup) -> Row {
     let bits = 1 + random.below(32);
     let mut values = [0; ORDER_COUNT];
     for value in &mut values {
         *value = random.below(1 << bits) as u32;
     }
-    Row { system, values }
+    Row { setup, values }
 }
 
 /// A record with a random fault or none, to try soundness on.
 fn damaged(random: &mut Random, record: &Observation) -> Observation {
     let mut record = record.clone();
     let place = random.below(ORDER_COUNT as u64) as usize;
-    match random.below(9) {
-        0 => record.system = random.below(14),
+    match random.below(12) {
+        0 => record.setup.system = random.below(14),
         1 => record.windows = 45_000,
         2 => record.windows = 45_001,
         3 => record.windows = 0,
@@ -136,41 +155,44 @@ fn damaged(random: &mut Random, record: &Observation) -> Observation {
         5 => record.sum[place] = record.windows * u64::from(u32::MAX) + 1,
         6 => record.peak[place] = (1 << 32) + random.below(5),
         7 => record.windows = 1 << 40,
-        _ => record.system = (1 << 32) + 10,
+        8 => record.setup.system = (1 << 32) + 10,
+        9 => record.setup.edition = random.below(4),
+        10 => record.setup.edition = u64::from(u32::MAX),
+        _ => record.setup.edition = (1 << 32) + random.below(2),
     }
     record
+}
+
+fn compare_fresh_record(tally: &mut Tally, setup: Setup) {
+    let mut core = vec![7; RECORD_WORDS];
+    let (system, edition) = system_and_edition(setup);
+    let answer = kifsang::fresh_record(system, edition, &mut core);
+    let (fresh, refusal) = fresh_record(setup);
+    let expected = refusal.map_or(0, |refusal| u32::from(refusal.number()));
+    let what = format!("fresh record of {setup:?}");
+    tally.same(&what, answer.err().map_or(0, |refusal| refusal.0), expected);
+    let after = if expected == 0 {
+        words(&fresh)
+    } else {
+        vec![7; RECORD_WORDS]
+    };
+    tally.same(&what, core, after);
 }
 
 pub fn compare(tally: &mut Tally, seed: u64) {
     let mut random = Random::new(seed ^ 0x5EED);
     let scales = [0, 1, 2, 1000, 1_000_000, 268_435_456, 268_435_457, u32::MAX];
     for system in [0, 9, 10, 11, 12, 13, 100] {
-        let mut core = vec![7; RECORD_WORDS];
-        let answer = kifsang::fresh_record(system, &mut core);
-        let (fresh, refusal) = fresh_record(system.into());
-        let expected = refusal.map_or(0, |refusal| u32::from(refusal.number()));
-        tally.same(
-            "fresh record",
-            answer.err().map_or(0, |refusal| refusal.0),
-            expected,
-        );
-        let after = if expected == 0 {
-            words(&fresh)
-        } else {
-            vec![7; RECORD_WORDS]
-        };
-        tally.same("the words after fresh record", core, after);
+        for edition in EDITIONS {
+            compare_fresh_record(tally, setup(system, edition));
+        }
     }
-    for system in [10, 12] {
-        for _ in 0..20 {
-            let (mut record, _) = fresh_record(system);
+    for setup in Setup::ALL {
+        for _ in 0..10 {
+            let (mut record, _) = fresh_record(setup);
             compare_verdicts(tally, &record, &scales);
             for _ in 0..40 {
-                let of = if random.below(8) == 0 {
-                    random.below(14)
-                } else {
-                    system
-                };
+                let of = row_setup(&mut random, setup);
                 let row = random_row(&mut random, of);
                 record = compare_add_row(tally, &record, &row);
                 let wrong = damaged(&mut random, &record);
@@ -181,17 +203,18 @@ pub fn compare(tally: &mut Tally, seed: u64) {
             compare_letters(tally, &record);
         }
     }
-    compare_letters(tally, &fresh_record(10).0);
+    compare_letters(tally, &fresh_record(Setup::edition_2(10)).0);
     compare_about_limits(tally, &mut random);
 
     // The worked verdicts, and every order with values about its own limits.
-    let (fresh, _) = fresh_record(10);
+    let setup = Setup::edition_2(10);
+    let (fresh, _) = fresh_record(setup);
     for order in 2..=ORDER_COUNT {
         for scale in [1000, 999_983, 1_000_000, 268_435_456] {
             let limit = (2_300_000 / order as u64).max(200) * scale / 1_000_000;
             for _ in 0..10 {
                 let mut row = Row {
-                    system: 10,
+                    setup,
                     values: [0; ORDER_COUNT],
                 };
                 let near = limit + random.below(2 * limit + 40);
@@ -205,7 +228,7 @@ pub fn compare(tally: &mut Tally, seed: u64) {
         2_299_988, 2_299_989, 2_300_012, 2_300_013, 3_449_988, 3_449_989, 3_450_012, 3_450_013,
     ] {
         let mut row = Row {
-            system: 10,
+            setup,
             values: [0; ORDER_COUNT],
         };
         row.values[2] = value;
@@ -214,24 +237,28 @@ pub fn compare(tally: &mut Tally, seed: u64) {
     }
 
     // Rows at the edge of 45,000 windows.
-    let (mut full, _) = fresh_record(12);
-    for windows in [44_999, 45_000] {
-        full.windows = windows;
-        compare_add_row(tally, &full, &random_row(&mut random, 12));
+    for setup in Setup::ALL {
+        let (mut full, _) = fresh_record(setup);
+        for windows in [44_999, 45_000] {
+            full.windows = windows;
+            for row_setup in Setup::ALL {
+                compare_add_row(tally, &full, &random_row(&mut random, row_setup));
+            }
+        }
     }
 
     // Slices that are no record and no row.
     let mut short = vec![0; RECORD_WORDS - 1];
     tally.same(
         "a short record",
-        kifsang::fresh_record(10, &mut short),
+        kifsang::fresh_record(10, EDITION_2, &mut short),
         Err(kifsang::Refusal(102)),
     );
     let mut whole = words(&fresh);
     let wrong = [0; ORDER_COUNT + 1];
     tally.same(
         "a long row",
-        kifsang::add_row(&mut whole, 10, &wrong),
+        kifsang::add_row(&mut whole, 10, EDITION_2, &wrong),
         Err(kifsang::Refusal(102)),
     );
     tally.same(

@@ -1,10 +1,11 @@
 //! Spectra, groups and distortion.
 
-use crate::{numbers, Tally};
+use crate::{numbers, setup, system_and_edition, Tally, EDITIONS};
 use kifsang::{LINE_COUNT, LINE_LIMIT, ORDER_COUNT, WINDOW_LENGTH};
 use reference::annex_c::{comparison, own_spectrum, Agreement};
-use reference::groups::Kind;
+use reference::groups::{group_row, group_value, Kind};
 use reference::random::Random;
+use reference::rows::Setup;
 use reference::signals;
 use std::cell::RefCell;
 
@@ -105,28 +106,52 @@ fn compare_line_refusals(tally: &mut Tally, seed: u64) {
     }
 }
 
-/// All kinds and orders of both systems for some lines, rows and distortion with them.
+/// A group value of some lines on both sides.
+fn compare_group_value(
+    tally: &mut Tally,
+    name: &str,
+    kind: usize,
+    setup: Setup,
+    order: u32,
+    lines: &[u64],
+) {
+    let (system, edition) = system_and_edition(setup);
+    let core = kifsang::group_value(KINDS[kind], system, edition, order, lines);
+    let expected = group_value(Kind::ALL[kind], setup, order.into(), lines);
+    let what = format!("{:?} of {name}, {setup:?}, order {order}", KINDS[kind]);
+    let (number, refusal) = numbers(&core, &expected);
+    tally.same(&what, number, refusal);
+    tally.same(&what, core.ok(), expected.ok());
+}
+
+/// A row of some lines on both sides, with all that the buffer holds after it, which is answered.
+fn compare_row(
+    tally: &mut Tally,
+    name: &str,
+    kind: usize,
+    setup: Setup,
+    lines: &[u64],
+) -> [u32; ORDER_COUNT] {
+    let before = [0xABCD; ORDER_COUNT];
+    let mut core = before;
+    let (system, edition) = system_and_edition(setup);
+    let answer = kifsang::row(KINDS[kind], system, edition, lines, &mut core);
+    let expected = group_row(Kind::ALL[kind], setup, lines);
+    let what = format!("row of {:?} of {name}, {setup:?}", KINDS[kind]);
+    let (number, refusal) = numbers(&answer, &expected);
+    tally.same(&what, number, refusal);
+    tally.same(&what, core, expected.map_or(before, |row| row.values));
+    core
+}
+
+/// All kinds and orders of both systems and both editions for some lines, rows and distortion with them.
 fn compare_groups(tally: &mut Tally, name: &str, lines: &[u64]) {
-    for (kind, other) in KINDS.into_iter().zip(Kind::ALL) {
-        for system in [10, 12] {
-            let mut row = [0; ORDER_COUNT];
-            let whole = kifsang::row(kind, system, lines, &mut row);
+    for kind in 0..KINDS.len() {
+        for setup in Setup::ALL {
             for order in 1..=ORDER_COUNT as u32 {
-                let core = kifsang::group_value(kind, system, order, lines);
-                let expected =
-                    reference::groups::group_value(other, system.into(), order.into(), lines);
-                let what = format!("{kind:?} of {name}, system {system}, order {order}");
-                tally.same(
-                    &what,
-                    numbers(&core, &expected).0,
-                    numbers(&core, &expected).1,
-                );
-                if let (Ok(value), Ok(expected)) = (core, expected) {
-                    tally.same(&what, value, expected);
-                    tally.same(&what, u64::from(row[order as usize - 1]), expected);
-                }
-                tally.same(&what, whole.is_ok(), core.is_ok());
+                compare_group_value(tally, name, kind, setup, order, lines);
             }
+            let row = compare_row(tally, name, kind, setup, lines);
             compare_distortion(tally, name, &row);
         }
     }
@@ -140,7 +165,7 @@ fn compare_distortion(tally: &mut Tally, name: &str, row: &[u32; ORDER_COUNT]) {
     tally.same(&format!("distortion of {name}"), core.ok(), expected.ok());
 }
 
-/// Group values that are refused: each fault alone and each pair of neighbours in the order.
+/// Group values and rows that are refused: each fault alone and each pair of neighbours in the order.
 fn compare_group_refusals(tally: &mut Tally) {
     let good = vec![4_000_000; LINE_COUNT];
     let mut at_edge = good.clone();
@@ -150,15 +175,14 @@ fn compare_group_refusals(tally: &mut Tally) {
     let short = vec![4_000_000; LINE_COUNT - 1];
     for lines in [&good, &at_edge, &above, &short] {
         for system in [0, 9, 10, 11, 12, 13, u32::MAX] {
-            for order in [0, 1, 2, 39, 40, 41, u32::MAX] {
-                for (kind, other) in KINDS.into_iter().zip(Kind::ALL) {
-                    let core = kifsang::group_value(kind, system, order, lines);
-                    let expected =
-                        reference::groups::group_value(other, system.into(), order.into(), lines);
-                    let (number, refusal) = numbers(&core, &expected);
-                    let what = format!("{kind:?}, system {system}, order {order}");
-                    tally.same(&what, number, refusal);
-                    tally.same(&what, core.ok(), expected.ok());
+            for edition in EDITIONS {
+                let setup = setup(system, edition);
+                let name = "good and damaged lines";
+                for kind in 0..KINDS.len() {
+                    for order in [0, 1, 2, 39, 40, 41, u32::MAX] {
+                        compare_group_value(tally, name, kind, setup, order, lines);
+                    }
+                    compare_row(tally, name, kind, setup, lines);
                 }
             }
         }

@@ -5,6 +5,7 @@
 use crate::groups::{Kind, weighted_lines};
 use crate::largest::largest;
 use crate::natural::Natural;
+use crate::rows::Setup;
 use crate::sine::exact_sines;
 use crate::spectrum::LINE_COUNT;
 use crate::turn::{Place, QUARTER_TURN, cosine_place, sine_place};
@@ -59,10 +60,11 @@ pub fn exact_lines(window: &[i32]) -> ExactLines {
 }
 
 impl ExactLines {
-    /// G of a kind at a system and order that the refusal table takes.
-    pub fn group(&self, kind: Kind, system: u64, order: u64) -> ExactGroup {
+    /// G of a kind at a setup and order that the refusal table takes; its lines and
+    /// weights are those of the edition (document 02, card 7).
+    pub fn group(&self, kind: Kind, setup: Setup, order: u64) -> ExactGroup {
         let mut numerator = Natural::default();
-        for (number, weight) in weighted_lines(kind, system, order) {
+        for (number, weight) in weighted_lines(kind, setup, order) {
             numerator.add_product(&self.numerators[number], weight as u32);
         }
         ExactGroup { numerator, denominator: self.denominator.clone() }

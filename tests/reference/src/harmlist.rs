@@ -1,14 +1,15 @@
 //! The program `harmlist` as a function from its input's bytes to its output's
 //! (document 01, "Columns and the listing"). The input is a line with the
 //! system and then one line per sample, windows back to back. The first fault
-//! in input order decides; the bytes after it are not read.
+//! in input order decides; the bytes after it are not read. It keeps edition 2
+//! (document 02, card 7).
 
 use crate::columns::{COLUMN_WIDTH, column_text, read_column};
 use crate::groups::Kind;
 use crate::listing::{REFUSAL_WIDTH, listing_text};
 use crate::observe::Observing;
 use crate::refusals::Refusal;
-use crate::rows::is_system;
+use crate::rows::{Setup, is_system};
 use crate::spectrum::{WINDOW_LENGTH, out_of_range};
 
 /// The next line's number, or none at the end of the input. Refused: 13 for a
@@ -47,7 +48,8 @@ fn listing_of(observing: &Observing) -> Result<Vec<u8>, Refusal> {
 
 /// The listing after the last window, or the first fault.
 fn listing_or_fault(mut input: impl Iterator<Item = u8>) -> Result<Vec<u8>, Refusal> {
-    let mut observing = Observing::begin(read_system(&mut input)?, Kind::HarmonicGroup)?;
+    let setup = Setup::edition_2(read_system(&mut input)?);
+    let mut observing = Observing::begin(setup, Kind::HarmonicGroup)?;
     let mut window = Vec::with_capacity(WINDOW_LENGTH);
     while let Some(number) = next_number(&mut input)? {
         window.push(sample_of(number)?);

@@ -5,7 +5,7 @@ use reference::exact_group::{GROUP_MARGIN, exact_lines};
 use reference::groups::{Kind, group_value};
 use reference::harmlist::harmlist;
 use reference::inputs::{all_inputs, input_bytes, sample_bytes};
-use reference::rows::ORDER_COUNT;
+use reference::rows::{ORDER_COUNT, Setup};
 use reference::signals::{appliances, plain_windows, seeded_windows};
 use reference::spectrum::{WINDOW_LENGTH, lines_of};
 use reference::table::quarter_wave;
@@ -77,16 +77,16 @@ fn print_recording(system: u64, windows: usize, seed: u64, mut output: impl Writ
 }
 
 /// The greatest distance between group value and root of the exact group, in
-/// thousandths of a unit, over all kinds, systems and orders of a window.
+/// thousandths of a unit, over all kinds, systems, editions and orders of a window.
 fn greatest_distance(window: &[i32]) -> u64 {
     let lines = lines_of(window, 0).expect("signals are in range");
     let exact = exact_lines(window);
     let mut greatest = 0;
     for kind in Kind::ALL {
-        for system in [10, 12] {
+        for setup in Setup::ALL {
             for order in 1..=ORDER_COUNT as u64 {
-                let value = group_value(kind, system, order, &lines).expect("lines are in range");
-                let exact_root = exact.group(kind, system, order).root_in_thousandths();
+                let value = group_value(kind, setup, order, &lines).expect("lines are in range");
+                let exact_root = exact.group(kind, setup, order).root_in_thousandths();
                 greatest = greatest.max(exact_root.abs_diff(1_000 * value));
             }
         }

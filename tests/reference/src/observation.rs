@@ -1,10 +1,10 @@
-//! The observation record (document 01, section of that name). The record's
-//! fields are wider than any sound record needs, so that records that are not
-//! sound can be tried too.
+//! The observation record (document 01, section of that name), to which an edition
+//! belongs (document 02, card 7). The record's fields are wider than any sound record
+//! needs, so that records that are not sound can be tried too.
 
 use crate::refusals::Refusal;
 use crate::rounding::nearest;
-use crate::rows::{LARGEST_VALUE, ORDER_COUNT, Row, is_system};
+use crate::rows::{LARGEST_VALUE, ORDER_COUNT, Row, Setup};
 
 /// The most windows of a record, 2.5 hours of them.
 pub const MOST_WINDOWS: u64 = 45_000;
@@ -12,8 +12,8 @@ pub const MOST_WINDOWS: u64 = 45_000;
 /// The observation record; index 0 of each array is order 1.
 #[derive(Clone, Debug, PartialEq, Eq)]
 pub struct Observation {
-    /// The cycles in a window.
-    pub system: u64,
+    /// The system and the edition.
+    pub setup: Setup,
     /// The count n of windows.
     pub windows: u64,
     /// The smoothed values.
@@ -24,29 +24,30 @@ pub struct Observation {
     pub peak: [u64; ORDER_COUNT],
 }
 
-fn empty_record(system: u64) -> Observation {
+fn empty_record(setup: Setup) -> Observation {
     let zeros = [0; ORDER_COUNT];
-    Observation { system, windows: 0, smoothed: zeros, sum: zeros, peak: zeros }
+    Observation { setup, windows: 0, smoothed: zeros, sum: zeros, peak: zeros }
 }
 
-/// A fresh record of the system. Refused, with a record of system 10: 1.
-pub fn fresh_record(system: u64) -> (Observation, Option<Refusal>) {
-    if is_system(system) {
-        (empty_record(system), None)
-    } else {
-        (empty_record(10), Some(Refusal::UnknownSystem))
+/// A fresh record of the setup. Refused, with a record of system 10 and edition 2,
+/// in this order: 1, 19.
+pub fn fresh_record(setup: Setup) -> (Observation, Option<Refusal>) {
+    match setup.check() {
+        Ok(()) => (empty_record(setup), None),
+        Err(refusal) => (empty_record(Setup::edition_2(10)), Some(refusal)),
     }
 }
 
-/// Whether a record is sound.
+/// Whether a record is sound; one that holds another edition than the two is not
+/// (document 02, card 7).
 pub fn is_sound(observation: &Observation) -> bool {
     let no_sum_above = observation.windows.saturating_mul(LARGEST_VALUE);
-    is_system(observation.system)
+    observation.setup.check().is_ok()
         && observation.windows <= MOST_WINDOWS
         && observation.sum.iter().all(|&sum| sum <= no_sum_above)
         && observation.peak.iter().all(|&peak| peak <= LARGEST_VALUE)
         && observation.smoothed.iter().all(|&smoothed| smoothed <= LARGEST_VALUE)
-        && (observation.windows > 0 || *observation == empty_record(observation.system))
+        && (observation.windows > 0 || *observation == empty_record(observation.setup))
 }
 
 /// (1000 × new + 7012 × old) / 8012 to the nearest, halves up; both below 2^32.
@@ -54,24 +55,25 @@ pub fn smoothed_value(new: u64, old: u64) -> u64 {
     nearest((1_000 * new + 7_012 * old) as i64, 8_012) as u64
 }
 
-/// Why a row is not taken, in this order: 7, 1, 8, 9.
-fn add_row_refusal(observation: &Observation, row: &Row) -> Option<Refusal> {
+/// Whether a row can be taken. Refused in this order: 7, 1, 19, 8, 9; "a row made
+/// under the other edition is 8" (document 02, card 7).
+fn check_row(observation: &Observation, row: &Row) -> Result<(), Refusal> {
     if !is_sound(observation) {
-        Some(Refusal::UnsoundRecord)
-    } else if !is_system(row.system) {
-        Some(Refusal::UnknownSystem)
-    } else if row.system != observation.system {
-        Some(Refusal::OtherSystem)
-    } else if observation.windows == MOST_WINDOWS {
-        Some(Refusal::RecordFull)
-    } else {
-        None
+        return Err(Refusal::UnsoundRecord);
     }
+    row.setup.check()?;
+    if row.setup != observation.setup {
+        return Err(Refusal::OtherSetup);
+    }
+    if observation.windows == MOST_WINDOWS {
+        return Err(Refusal::RecordFull);
+    }
+    Ok(())
 }
 
 /// The record after a row; a refused row leaves it unchanged.
 pub fn add_row(observation: Observation, row: &Row) -> (Observation, Option<Refusal>) {
-    if let Some(refusal) = add_row_refusal(&observation, row) {
+    if let Err(refusal) = check_row(&observation, row) {
         return (observation, Some(refusal));
     }
     let mut next = observation;

@@ -5,7 +5,7 @@
 use crate::groups::{Kind, group_row};
 use crate::observation::{Observation, add_row, fresh_record};
 use crate::refusals::Refusal;
-use crate::rows::Row;
+use crate::rows::{Row, Setup};
 use crate::spectrum::{LINE_COUNT, WINDOW_LENGTH, lines_of, window_at};
 
 /// An observation under way: the record after some windows, and the last of
@@ -19,16 +19,16 @@ pub struct Observing {
 }
 
 impl Observing {
-    /// No window yet. Refused: 1.
-    pub fn begin(system: u64, kind: Kind) -> Result<Observing, Refusal> {
-        let (observation, refusal) = fresh_record(system);
+    /// No window yet. Refused in this order: 1, 19.
+    pub fn begin(setup: Setup, kind: Kind) -> Result<Observing, Refusal> {
+        let (observation, refusal) = fresh_record(setup);
         let (window, lines) = (Vec::new(), [0; LINE_COUNT]);
         refusal.map_or(Ok(Observing { observation, kind, window, lines }), Err)
     }
 
-    /// The last window's row of a kind.
+    /// The last window's row of a kind, under the record's setup.
     pub fn row(&self, kind: Kind) -> Result<Row, Refusal> {
-        group_row(kind, self.observation.system, &self.lines)
+        group_row(kind, self.observation.setup, &self.lines)
     }
 
     /// Takes the window that begins at `start`. Refused in this order: 2, 3, 9. A
@@ -47,16 +47,16 @@ impl Observing {
 }
 
 /// The record after so many windows back to back, the first at `start`, each
-/// with its row of the kind. Refused: 1, and then at the first window that gives
-/// one of them, in this order, 2, 3, 9.
+/// with its row of the kind. Refused: 1, then 19, and then at the first window that
+/// gives one of them, in this order, 2, 3, 9.
 pub fn observe(
     recording: &[i32],
     start: usize,
     windows: usize,
-    system: u64,
+    setup: Setup,
     kind: Kind,
 ) -> Result<Observation, Refusal> {
-    let mut observing = Observing::begin(system, kind)?;
+    let mut observing = Observing::begin(setup, kind)?;
     for number in 0..windows {
         // A place that no number of 64 bits has is past the end of every recording.
         let place = start.saturating_add(number.saturating_mul(WINDOW_LENGTH));

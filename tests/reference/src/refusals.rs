@@ -19,8 +19,8 @@ pub enum Refusal {
     OrderOutOfRange = 6,
     /// The observation record is not sound.
     UnsoundRecord = 7,
-    /// The row's system differs from the record's.
-    OtherSystem = 8,
+    /// The row's system or its edition differs from the record's.
+    OtherSetup = 8,
     /// The record holds 45,000 windows already.
     RecordFull = 9,
     /// No window has come yet.
@@ -35,6 +35,8 @@ pub enum Refusal {
     WrongBufferLength = 14,
     /// The class letter is neither A nor B (document 02, card 1).
     UnknownClass = 15,
+    /// The edition is neither 0 nor 1 (document 02, card 7).
+    UnknownEdition = 19,
 }
 
 impl Refusal {

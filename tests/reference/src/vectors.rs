@@ -13,7 +13,7 @@ use crate::observation::{MOST_WINDOWS, Observation, add_row, fresh_record};
 use crate::observe::observe;
 use crate::random::Random;
 use crate::refusals::{Refusal, number_or_zero};
-use crate::rows::{LARGEST_VALUE, ORDER_COUNT, Row};
+use crate::rows::{EDITION_2, EDITION_A1, LARGEST_VALUE, ORDER_COUNT, Row, SYSTEMS, Setup};
 use crate::signals::{Signal, appliances, halfway_window, noise, noise_of_ends};
 use crate::signals::{plain_windows, seeded_windows, square_wave, tone};
 use crate::spectrum::{LARGEST_LINE, LARGEST_SAMPLE, LINE_COUNT, LINE_LIMIT, WINDOW_LENGTH};
@@ -22,13 +22,25 @@ use crate::verdict::{LARGEST_SCALE, Question, Verdict, order_verdict};
 use std::fmt::Display;
 use std::io::{Result, Write};
 
-const SYSTEMS: [u64; 2] = [10, 12];
+/// Both editions, and numbers of none.
+const EDITIONS: [u64; 4] = [EDITION_2, EDITION_A1, 2, u32::MAX as u64];
 /// The scales at both edges, and those beside them.
 const EDGE_SCALES: [u64; 4] = [0, 1, LARGEST_SCALE, LARGEST_SCALE + 1];
 /// The orders that have a limit at both edges, those beside them, and 0.
 const EDGE_ORDERS: [u64; 5] = [0, 1, 2, 40, 41];
 /// What a buffer holds before a call, so that bytes that stay can be seen.
 const UNTOUCHED: u8 = b'#';
+
+/// The kinds with their numbers.
+fn kinds() -> impl Iterator<Item = (Kind, usize)> {
+    Kind::ALL.into_iter().zip(0..)
+}
+
+/// Each system under each edition.
+fn setups(systems: &[u64], editions: &[u64]) -> Vec<Setup> {
+    let with = |&edition| systems.iter().map(move |&system| Setup { system, edition });
+    editions.iter().flat_map(with).collect()
+}
 
 /// The printer of the lines.
 struct Printer<W: Write> {
@@ -56,7 +68,8 @@ impl<W: Write> Printer<W> {
         self.line::<A, A>(word, numbers, &[])
     }
 
-    /// The spectrum of the window at `start`, and the five kinds at both systems.
+    /// The spectrum of the window at `start`, and the five kinds at both systems
+    /// under both editions.
     fn spectrum_case(&mut self, signal: &Signal, start: usize, line_count: usize) -> Result<()> {
         let mut lines = vec![0; line_count];
         let refusal = number_or_zero(&spectrum(&signal.samples, start, &mut lines));
@@ -65,10 +78,10 @@ impl<W: Write> Printer<W> {
         self.line("spectrum", &[start, line_count], &[refusal])?;
         if refusal == 0 {
             self.numbers("lines", &lines)?;
-            for system in SYSTEMS {
-                for (kind, number) in Kind::ALL.into_iter().zip(0..) {
-                    let row = group_row(kind, system, &lines).expect("lines in range");
-                    self.line("row", &[number, system], &row.values)?;
+            for setup in Setup::ALL {
+                for (kind, number) in kinds() {
+                    let row = group_row(kind, setup, &lines).expect("lines in range");
+                    self.line("row", &[number as u64, setup.system, setup.edition], &row.values)?;
                     self.distortion_case(&row.values)?;
                 }
             }
@@ -99,12 +112,13 @@ impl<W: Write> Printer<W> {
         &mut self,
         recording: &[i32],
         (start, windows): (usize, usize),
-        system: u64,
+        setup: Setup,
         (kind, number): (Kind, usize),
     ) -> Result<()> {
-        let result = observe(recording, start, windows, system, kind);
+        let result = observe(recording, start, windows, setup, kind);
         let refusal = number_or_zero(&result).into();
-        let numbers = [start, windows, system as usize, number, refusal];
+        let Setup { system, edition } = setup;
+        let numbers = [start, windows, system as usize, edition as usize, number, refusal];
         self.numbers("observe", &numbers)?;
         result.map_or(Ok(()), |observation| self.record(&observation))
     }
@@ -116,15 +130,15 @@ impl<W: Write> Printer<W> {
     }
 
     /// Group values for lines that need not come from a window.
-    fn group_cases(&mut self, lines: &[u64], systems: &[u64], orders: &[u64]) -> Result<()> {
+    fn group_cases(&mut self, lines: &[u64], setups: &[Setup], orders: &[u64]) -> Result<()> {
         self.numbers("lines", lines)?;
-        for (kind, number) in Kind::ALL.into_iter().zip(0..) {
-            for &system in systems {
+        for (kind, number) in kinds() {
+            for &setup in setups {
                 for &order in orders {
-                    let result = group_value(kind, system, order, lines);
-                    let refusal = number_or_zero(&result).into();
-                    let value = result.unwrap_or(0);
-                    self.numbers("group_value", &[number, system, order, refusal, value])?;
+                    let result = group_value(kind, setup, order, lines);
+                    let asked = [number as u64, setup.system, setup.edition, order];
+                    let answer = [number_or_zero(&result).into(), result.unwrap_or(0)];
+                    self.line("group_value", &asked, &answer)?;
                 }
             }
         }
@@ -133,12 +147,14 @@ impl<W: Write> Printer<W> {
 
     fn record(&mut self, record: &Observation) -> Result<()> {
         let values = [record.smoothed, record.sum, record.peak].concat();
-        self.line("record", &[record.system, record.windows], &values)
+        let Setup { system, edition } = record.setup;
+        self.line("record", &[system, edition, record.windows], &values)
     }
 
-    fn fresh_case(&mut self, system: u64) -> Result<Observation> {
-        let (record, refusal) = fresh_record(system);
-        self.numbers("fresh_record", &[system, refusal.map_or(0, Refusal::number).into()])?;
+    fn fresh_case(&mut self, setup: Setup) -> Result<Observation> {
+        let (record, refusal) = fresh_record(setup);
+        let refusal = refusal.map_or(0, Refusal::number).into();
+        self.numbers("fresh_record", &[setup.system, setup.edition, refusal])?;
         self.record(&record)?;
         Ok(record)
     }
@@ -147,7 +163,8 @@ impl<W: Write> Printer<W> {
     fn row_case(&mut self, record: Observation, row: &Row) -> Result<Observation> {
         let (next, refusal) = add_row(record, row);
         let refusal = refusal.map_or(0, Refusal::number);
-        self.line("add_row", &[refusal.into(), row.system], &row.values)?;
+        let Setup { system, edition } = row.setup;
+        self.line("add_row", &[refusal.into(), system, edition], &row.values)?;
         self.record(&next)?;
         Ok(next)
     }
@@ -279,10 +296,10 @@ fn print_line_parts<W: Write>(printer: &mut Printer<W>, seed: u64) -> Result<()>
     Ok(())
 }
 
-/// Windows back to back: all kinds, both systems, a bad sample in each window,
-/// recordings that are short, and the order of these.
+/// Windows back to back: all kinds, both systems and editions, a bad sample in each
+/// window, recordings that are short, other systems and editions, and the order of
+/// these.
 fn print_observations<W: Write>(printer: &mut Printer<W>, seed: u64) -> Result<()> {
-    let kinds = || Kind::ALL.into_iter().zip(0..);
     let (before, windows) = (5, 10);
     for system in SYSTEMS {
         let mut recording = vec![i32::MIN; before];
@@ -292,14 +309,16 @@ fn print_observations<W: Write>(printer: &mut Printer<W>, seed: u64) -> Result<(
         recording.push(i32::MAX);
         printer.comment("an appliance in each window")?;
         printer.numbers("recording", &recording)?;
-        for kind in kinds() {
-            for count in 0..=3 {
-                printer.observe_case(&recording, (before, count), system, kind)?;
+        for setup in [Setup::edition_2(system), Setup::edition_a1(system)] {
+            for kind in kinds() {
+                for count in 0..=3 {
+                    printer.observe_case(&recording, (before, count), setup, kind)?;
+                }
             }
-        }
-        let group = (Kind::HarmonicGroup, 1);
-        for count in [windows, windows + 1, usize::MAX] {
-            printer.observe_case(&recording, (before, count), system, group)?;
+            let group = (Kind::HarmonicGroup, 1);
+            for count in [windows, windows + 1, usize::MAX] {
+                printer.observe_case(&recording, (before, count), setup, group)?;
+            }
         }
     }
     let windows = 3;
@@ -320,9 +339,13 @@ fn print_observations<W: Write>(printer: &mut Printer<W>, seed: u64) -> Result<(
         let component = (Kind::Component, 0);
         for count in 0..=windows + 1 {
             for start in [0, 1, usize::MAX] {
-                printer.observe_case(&recording, (start, count), 10, component)?;
+                let setup = Setup::edition_2(10);
+                printer.observe_case(&recording, (start, count), setup, component)?;
             }
-            printer.observe_case(&recording, (0, count), 11, component)?;
+            printer.observe_case(&recording, (0, count), Setup::edition_2(11), component)?;
+            for setup in setups(&[10, 11], &EDITIONS[1..]) {
+                printer.observe_case(&recording, (0, count), setup, component)?;
+            }
         }
     }
     Ok(())
@@ -331,20 +354,20 @@ fn print_observations<W: Write>(printer: &mut Printer<W>, seed: u64) -> Result<(
 fn print_groups<W: Write>(printer: &mut Printer<W>, random: &mut Random) -> Result<()> {
     let all_orders: Vec<u64> = (1..=ORDER_COUNT as u64).collect();
     printer.comment("lines at their greatest, and at random")?;
-    printer.group_cases(&[LARGEST_LINE; LINE_COUNT], &SYSTEMS, &all_orders)?;
+    printer.group_cases(&[LARGEST_LINE; LINE_COUNT], &Setup::ALL, &all_orders)?;
     for shift in [5, 30, 58] {
         let lines: Vec<u64> = (0..LINE_COUNT).map(|_| random.bits() >> shift).collect();
-        printer.group_cases(&lines, &SYSTEMS, &all_orders)?;
+        printer.group_cases(&lines, &Setup::ALL, &all_orders)?;
     }
     printer.comment("refusals of the group value and their order")?;
-    let systems = [0, 9, 10, 11, 12, 13];
+    let setups = setups(&[0, 9, 10, 11, 12, 13], &EDITIONS);
     let orders = [0, 1, 40, 41, u64::from(u32::MAX)];
     for line_count in [0, LINE_COUNT - 1, LINE_COUNT, LINE_COUNT + 1] {
         let mut lines = vec![4; line_count];
-        printer.group_cases(&lines, &systems, &orders)?;
+        printer.group_cases(&lines, &setups, &orders)?;
         if let Some(last) = lines.last_mut() {
             *last = LARGEST_LINE + 1;
-            printer.group_cases(&lines, &systems, &orders)?;
+            printer.group_cases(&lines, &setups, &orders)?;
         }
     }
     Ok(())
@@ -375,19 +398,22 @@ fn print_distortions<W: Write>(printer: &mut Printer<W>, random: &mut Random) ->
     Ok(())
 }
 
-/// Runs of rows into one record, with verdicts in a class on the way.
+/// Runs of rows into one record of an edition, with verdicts in a class on the way.
 fn print_records<W: Write>(
     printer: &mut Printer<W>,
     random: &mut Random,
+    edition: u64,
     class_letter: u8,
 ) -> Result<()> {
     for system in [0, 11, 13, 10, 12] {
-        let mut record = printer.fresh_case(system)?;
+        let mut record = printer.fresh_case(Setup { system, edition })?;
         printer.verdict_case(&record, Question { order: 3, class_letter, scale: 1_000_000 })?;
         for _ in 0..12 {
-            let row_system = [record.system, record.system, 10, 12, 11][random.below(5) as usize];
+            let own = record.setup.system;
+            let system = [own, own, 10, 12, 11][random.below(5) as usize];
+            let setup = Setup { system, ..record.setup };
             let values = random_values(random);
-            record = printer.row_case(record, &Row { system: row_system, values })?;
+            record = printer.row_case(record, &Row { setup, values })?;
             for _ in 0..4 {
                 let scale = 1 + (random.bits() >> (36 + random.below(28)));
                 let order = random.below(43);
@@ -398,9 +424,9 @@ fn print_records<W: Write>(
     Ok(())
 }
 
-/// Records at the edges of soundness and of the count of windows.
-fn edge_records() -> Vec<Observation> {
-    let (fresh, _) = fresh_record(10);
+/// Records of an edition at the edges of soundness and of the count of windows.
+fn edge_records(edition: u64) -> Vec<Observation> {
+    let (fresh, _) = fresh_record(Setup { system: 10, edition });
     let held = |windows: u64| {
         let full = [LARGEST_VALUE; ORDER_COUNT];
         let sum = [windows * LARGEST_VALUE; ORDER_COUNT];
@@ -411,7 +437,7 @@ fn edge_records() -> Vec<Observation> {
         records.push(held(windows));
     }
     for system in [0, 11, 12, 13] {
-        records.push(Observation { system, ..held(7) });
+        records.push(Observation { setup: Setup { system, edition }, ..held(7) });
     }
     let edits: [fn(&mut Observation); 3] = [
         |record| record.sum[39] += 1,
@@ -442,11 +468,11 @@ fn print_edge_verdicts<W: Write>(
     Ok(())
 }
 
-fn print_record_edges<W: Write>(printer: &mut Printer<W>) -> Result<()> {
-    for record in edge_records() {
-        for system in [10, 11, 12] {
+fn print_record_edges<W: Write>(printer: &mut Printer<W>, edition: u64) -> Result<()> {
+    for record in edge_records(edition) {
+        for setup in setups(&[10, 11, 12], &[edition]) {
             printer.record(&record)?;
-            printer.row_case(record.clone(), &Row { system, values: [u32::MAX; ORDER_COUNT] })?;
+            printer.row_case(record.clone(), &Row { setup, values: [u32::MAX; ORDER_COUNT] })?;
         }
         printer.record(&record)?;
         print_edge_verdicts(printer, &record, b'A')?;
@@ -464,17 +490,18 @@ fn last_and_next(bits: u32, holds: impl Fn(u64) -> bool) -> Vec<u64> {
     vec![last, last + 1]
 }
 
-/// Sums and peaks about the places where the verdict on an order changes; they
-/// are found from the verdict itself, by halving.
+/// Sums and peaks about the places where the verdict on an order changes, in records
+/// of a setup; they are found from the verdict itself, by halving.
 fn print_verdicts_about<W: Write>(
     printer: &mut Printer<W>,
+    setup: Setup,
     question: Question,
     windows: u64,
 ) -> Result<()> {
     let order = question.order;
     let place = order as usize - 1;
     let with = |sum: u64, peak: u64| {
-        let (mut record, _) = fresh_record(10);
+        let (mut record, _) = fresh_record(setup);
         record.windows = windows;
         record.sum[place] = sum;
         record.peak[place] = peak;
@@ -513,7 +540,8 @@ fn print_limits<W: Write>(printer: &mut Printer<W>, class_letter: u8) -> Result<
 fn print_verdicts<W: Write>(printer: &mut Printer<W>, class_letter: u8) -> Result<()> {
     for order in 2..=40 {
         for (scale, windows) in [(1_000_000, 1), (987_654, 7), (LARGEST_SCALE, 3)] {
-            print_verdicts_about(printer, Question { order, class_letter, scale }, windows)?;
+            let question = Question { order, class_letter, scale };
+            print_verdicts_about(printer, Setup::edition_2(10), question, windows)?;
         }
     }
     Ok(())
@@ -527,7 +555,7 @@ fn print_class_b<W: Write>(printer: &mut Printer<W>, random: &mut Random) -> Res
     let class_letter = b'B';
     printer.comment("class B")?;
     print_limits(printer, class_letter)?;
-    print_records(printer, random, class_letter)?;
+    print_records(printer, random, EDITION_2, class_letter)?;
     print_verdicts(printer, class_letter)?;
     for order in 2..=40 {
         for (scale, windows) in [
@@ -537,7 +565,8 @@ fn print_class_b<W: Write>(printer: &mut Printer<W>, random: &mut Random) -> Res
             (LARGEST_SCALE, 1),
             (LARGEST_SCALE, MOST_WINDOWS),
         ] {
-            print_verdicts_about(printer, Question { order, class_letter, scale }, windows)?;
+            let question = Question { order, class_letter, scale };
+            print_verdicts_about(printer, Setup::edition_2(10), question, windows)?;
         }
     }
     Ok(())
@@ -546,7 +575,7 @@ fn print_class_b<W: Write>(printer: &mut Printer<W>, random: &mut Random) -> Res
 /// Letters of no class, and which of several faults decides.
 fn print_other_letters<W: Write>(printer: &mut Printer<W>) -> Result<()> {
     printer.comment("letters of no class")?;
-    let (mut record, _) = fresh_record(10);
+    let (mut record, _) = fresh_record(Setup::edition_2(10));
     record.windows = 1;
     printer.record(&record)?;
     for class_letter in (0..=u8::MAX).filter(|letter| !b"AB".contains(letter)) {
@@ -556,13 +585,56 @@ fn print_other_letters<W: Write>(printer: &mut Printer<W>) -> Result<()> {
         printer.verdict_case(&record, Question { order: 3, class_letter, scale: 1_000_000 })?;
     }
     printer.comment("class B and letters of no class at each edge of a verdict")?;
-    for record in edge_records() {
+    for record in edge_records(EDITION_2) {
         printer.record(&record)?;
         for class_letter in [b'B', 0, b'@', b'C', b'D', b'a', b'b', b'd', u8::MAX] {
             print_edge_verdicts(printer, &record, class_letter)?;
         }
     }
     Ok(())
+}
+
+/// Fresh records, rows and verdicts with every setup: into a record of no window, one,
+/// the most or one more come rows of each. The last two editions of a record are none,
+/// though their low 32 bits are one.
+fn print_setups<W: Write>(printer: &mut Printer<W>) -> Result<()> {
+    printer.comment("each system and edition, of a record beside those of a row")?;
+    for setup in setups(&[0, 10, 11, 12], &EDITIONS) {
+        printer.fresh_case(setup)?;
+    }
+    let (fresh, _) = fresh_record(Setup::edition_2(10));
+    let held_editions = [&EDITIONS[..], &[1 << 32, (1 << 32) + 1]].concat();
+    for record_setup in setups(&SYSTEMS, &held_editions) {
+        for windows in [0, 1, MOST_WINDOWS, MOST_WINDOWS + 1] {
+            let record = Observation { setup: record_setup, windows, ..fresh.clone() };
+            printer.record(&record)?;
+            for setup in setups(&[10, 11, 12], &EDITIONS) {
+                let row = Row { setup, values: [7; ORDER_COUNT] };
+                if printer.row_case(record.clone(), &row)? != record {
+                    printer.record(&record)?;
+                }
+            }
+            let question = Question { order: 3, class_letter: b'A', scale: 1_000_000 };
+            printer.verdict_case(&record, question)?;
+        }
+    }
+    Ok(())
+}
+
+/// Edition 2.0 A1 (document 02, card 7): runs of rows, verdicts about limits in both
+/// classes, and the edges of a record.
+fn print_edition_a1<W: Write>(printer: &mut Printer<W>, random: &mut Random) -> Result<()> {
+    printer.comment("edition 2.0 A1")?;
+    for class_letter in *b"AB" {
+        print_records(printer, random, EDITION_A1, class_letter)?;
+        for order in [2, 3, 20, 39, 40] {
+            let question = Question { order, class_letter, scale: 1_000_000 };
+            for system in SYSTEMS {
+                print_verdicts_about(printer, Setup::edition_a1(system), question, 7)?;
+            }
+        }
+    }
+    print_record_edges(printer, EDITION_A1)
 }
 
 /// Texts that are a column or nearly one.
@@ -666,8 +738,8 @@ pub fn print_vectors(seed: u64, output: impl Write) -> Result<()> {
     print_line_parts(printer, seed)?;
     print_groups(printer, random)?;
     print_distortions(printer, random)?;
-    print_records(printer, random, b'A')?;
-    print_record_edges(printer)?;
+    print_records(printer, random, EDITION_2, b'A')?;
+    print_record_edges(printer, EDITION_2)?;
     print_observations(printer, seed)?;
     printer.comment("the limit of each order")?;
     print_limits(printer, b'A')?;
@@ -675,5 +747,7 @@ pub fn print_vectors(seed: u64, output: impl Write) -> Result<()> {
     print_columns(printer, random)?;
     print_listings(printer, random)?;
     print_class_b(printer, random)?;
-    print_other_letters(printer)
+    print_other_letters(printer)?;
+    print_edition_a1(printer, random)?;
+    print_setups(printer)
 }

@@ -1,11 +1,16 @@
-//! Demand 3 tried on windows: group values lie within 7 units of the exact
-//! groups, and smoothed values within 12 of the exact smoothing.
+//! Demand 3 tried on windows, under both editions: group values lie within 7 units
+//! of the exact groups, and smoothed values within 12 of the exact smoothing.
 
 use reference::exact_group::exact_lines;
 use reference::groups::{Kind, group_row, group_value};
 use reference::observation::{add_row, fresh_record};
+use reference::rows::Setup;
 use reference::signals::{Signal, motor_drive, noise, noise_of_ends, pulse, square_wave, tone};
 use reference::spectrum::{WINDOW_LENGTH, lines_of};
+
+fn setups_and_orders() -> impl Iterator<Item = (Setup, u64)> {
+    Setup::ALL.into_iter().flat_map(|setup| (1..=40).map(move |order| (setup, order)))
+}
 
 #[test]
 fn group_values_lie_within_7_units_of_the_exact_groups() {
@@ -22,10 +27,10 @@ fn group_values_lie_within_7_units_of_the_exact_groups() {
         let lines = lines_of(&signal.samples, 0).unwrap();
         let exact = exact_lines(&signal.samples);
         for kind in Kind::ALL {
-            for (system, order) in (1..=40).flat_map(|order| [(10, order), (12, order)]) {
-                let value = group_value(kind, system, order, &lines).unwrap();
-                let group = exact.group(kind, system, order);
-                assert!(group.is_near(value), "{}: {kind:?} {system} {order}", signal.name);
+            for (setup, order) in setups_and_orders() {
+                let value = group_value(kind, setup, order, &lines).unwrap();
+                let group = exact.group(kind, setup, order);
+                assert!(group.is_near(value), "{}: {kind:?} {setup:?} {order}", signal.name);
                 assert!(group.root_in_thousandths().abs_diff(1_000 * value) <= 7_000);
             }
         }
@@ -36,31 +41,46 @@ fn group_values_lie_within_7_units_of_the_exact_groups() {
 fn exact_group_of_the_pulse_is_its_sum_of_squares() {
     // Every exact line of the pulse is 2000² but for the error of the series.
     let exact = exact_lines(&pulse(WINDOW_LENGTH, 0, 1_000).samples);
-    let root = exact.group(Kind::HarmonicSubgroup, 10, 7).root_in_thousandths();
-    assert_eq!(root, 4_898_979);
-    assert!(exact.group(Kind::HarmonicSubgroup, 10, 7).is_near(4_891 + 1));
-    assert!(!exact.group(Kind::HarmonicSubgroup, 10, 7).is_near(4_891));
-    assert!(!exact.group(Kind::HarmonicSubgroup, 10, 7).is_near(4_906));
+    let group = exact.group(Kind::HarmonicSubgroup, Setup::edition_2(10), 7);
+    assert_eq!(group.root_in_thousandths(), 4_898_979);
+    assert!(group.is_near(4_891 + 1));
+    assert!(!group.is_near(4_891));
+    assert!(!group.is_near(4_906));
+}
+
+#[test]
+fn exact_group_of_order_1_under_a1_is_the_component() {
+    let exact = exact_lines(&pulse(WINDOW_LENGTH, 0, 1_000).samples);
+    for system in [10, 12] {
+        let group = exact.group(Kind::HarmonicGroup, Setup::edition_a1(system), 1);
+        assert_eq!(group.root_in_thousandths(), 2_828_427);
+        assert!(group.is_near(2_821 + 1) && group.is_near(2_835));
+        assert!(!group.is_near(2_821) && !group.is_near(2_836));
+    }
 }
 
 #[test]
 fn smoothed_values_lie_within_12_units_of_the_exact_smoothing() {
-    let (mut record, _) = fresh_record(10);
-    let mut exact_smoothed = [0.0; 40];
+    let setups = [Setup::edition_2(10), Setup::edition_a1(10)];
+    let mut records = setups.map(|setup| (fresh_record(setup).0, [0.0; 40]));
     for seed in 0..8 {
         let window = noise(WINDOW_LENGTH, 2_000, 100 + seed).samples;
         let lines = lines_of(&window, 0).unwrap();
-        let row = group_row(Kind::HarmonicGroup, 10, &lines).unwrap();
         let exact = exact_lines(&window);
-        for (order, smoothed) in (1..).zip(&mut exact_smoothed) {
-            let root = exact.group(Kind::HarmonicGroup, 10, order).root_in_thousandths();
-            let new = root as f64 / 1_000.0;
+        for (record, exact_smoothed) in &mut records {
             let first = record.windows == 0;
-            *smoothed = if first { new } else { (1_000.0 * new + 7_012.0 * *smoothed) / 8_012.0 };
+            for (order, smoothed) in (1..).zip(exact_smoothed.iter_mut()) {
+                let group = exact.group(Kind::HarmonicGroup, record.setup, order);
+                let new = group.root_in_thousandths() as f64 / 1_000.0;
+                let later = (1_000.0 * new + 7_012.0 * *smoothed) / 8_012.0;
+                *smoothed = if first { new } else { later };
+            }
+            let row = group_row(Kind::HarmonicGroup, record.setup, &lines).unwrap();
+            *record = add_row(record.clone(), &row).0;
+            for (&reported, exact) in record.smoothed.iter().zip(exact_smoothed) {
+                assert!((reported as f64 - *exact).abs() <= 12.0);
+            }
         }
-        record = add_row(record, &row).0;
-        for (reported, exact) in record.smoothed.iter().zip(exact_smoothed) {
-            assert!((*reported as f64 - exact).abs() <= 12.0);
-        }
+        assert_eq!(records.each_ref().map(|(record, _)| record.windows), [seed + 1; 2]);
     }
 }

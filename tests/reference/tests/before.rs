@@ -1,7 +1,9 @@
-//! Nothing of before changes: "a class A user sees the verdicts of before" (document
-//! 02, card 1). The lines of limits and verdicts that stood among the test cases
-//! before there was a class letter stand there still, first of all such lines, with
-//! the letter A; without it they are byte for byte what they were.
+//! Nothing of before changes. All that stood among the test cases before there was
+//! an edition stands there still, in the same order, under edition 2 (document 02,
+//! card 7: the others, and all under edition 2, "as now"); without the edition it is
+//! byte for byte what it was. "A class A user sees the verdicts of before" (card 1):
+//! of these lines, the limits and verdicts that stood there before there was a class
+//! letter are the first, with the letter A; without it they are what they were.
 
 use reference::vectors::print_vectors;
 
@@ -13,6 +15,8 @@ struct Digest {
     digest: u64,
 }
 
+/// Of all lines but comments that `reference vectors 1` printed before card 7.
+const ALL: Digest = Digest { lines: 18_266, digest: 0x2c7e_1dad_195f_01c2 };
 /// Of the lines `limit` and `verdict`, in their order, that `reference vectors 1`
 /// printed before card 1: 44 and 1,521.
 const JUDGED: Digest = Digest { lines: 1_565, digest: 0x4f3d_3538_fa3b_b2a6 };
@@ -30,29 +34,67 @@ fn digest_of(lines: &[String]) -> Digest {
     Digest { lines: lines.len(), digest: fnv_1a(bytes) }
 }
 
-/// A line of a limit or a verdict without its class letter, the second number,
-/// which must be A.
-fn without_letter(line: &str) -> String {
-    let mut parts: Vec<&str> = line.split(' ').collect();
-    assert_eq!(parts.remove(3), "65", "{line}");
-    let count = (parts.len() - 2).to_string();
-    parts[1] = &count;
-    parts.join(" ")
+fn word_of(line: &str) -> &str {
+    line.split(' ').next().expect("a line has a word")
+}
+
+/// The number at a place of a line, and the line without it.
+fn without(line: &str, place: usize) -> (&str, String) {
+    let mut numbers: Vec<&str> = line.split(' ').skip(2).collect();
+    let number = numbers.remove(place);
+    let rest = format!("{} {} {}", word_of(line), numbers.len(), numbers.join(" "));
+    (number, rest)
+}
+
+/// The place of the edition among the numbers after a word.
+fn edition_place(word: &str) -> Option<usize> {
+    match word {
+        "fresh_record" | "record" => Some(1),
+        "row" | "group_value" | "add_row" => Some(2),
+        "observe" => Some(3),
+        _ => None,
+    }
+}
+
+/// The lines of before, without their edition. A line with another edition than 0 is
+/// left out, and so is the distortion directly after a row that is.
+fn lines_of_before() -> Vec<String> {
+    let mut output = Vec::new();
+    print_vectors(1, &mut output).unwrap();
+    let text = String::from_utf8(output).unwrap();
+    let (mut lines, mut after_other_row) = (Vec::new(), false);
+    for line in text.lines().filter(|line| !line.starts_with('#')) {
+        let word = word_of(line);
+        let (edition, line) = match edition_place(word) {
+            Some(place) => without(line, place),
+            None => ("0", line.to_string()),
+        };
+        if edition == "0" && !(after_other_row && word == "distortion") {
+            lines.push(line);
+        }
+        after_other_row = edition != "0" && word == "row";
+    }
+    lines.truncate(ALL.lines);
+    lines
+}
+
+#[test]
+fn under_edition_2_all_is_as_before() {
+    assert_eq!(digest_of(&lines_of_before()), ALL);
 }
 
 #[test]
 fn limits_and_verdicts_of_class_a_are_those_of_before() {
-    let mut output = Vec::new();
-    print_vectors(1, &mut output).unwrap();
-    let text = String::from_utf8(output).unwrap();
-    let (mut judged, mut records, mut record) = (Vec::new(), Vec::new(), "");
-    for line in text.lines() {
-        match line.split(' ').next() {
-            Some("record") => record = line,
-            Some("limit" | "verdict") if judged.len() < JUDGED.lines => {
-                judged.push(without_letter(line));
+    let (mut judged, mut records, mut record) = (Vec::new(), Vec::new(), String::new());
+    for line in lines_of_before() {
+        match word_of(&line) {
+            "record" => record = line,
+            "limit" | "verdict" if judged.len() < JUDGED.lines => {
+                let (class_letter, without_letter) = without(&line, 1);
+                assert_eq!(class_letter, "65", "{line}");
+                judged.push(without_letter);
                 if line.starts_with("verdict") {
-                    records.push(record.to_string());
+                    records.push(record.clone());
                 }
             }
             _ => {}

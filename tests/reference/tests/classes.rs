@@ -4,6 +4,7 @@
 use reference::limits::order_limit;
 use reference::observation::{Observation, fresh_record};
 use reference::random::Random;
+use reference::rows::Setup;
 use reference::verdict::{LARGEST_SCALE, Question, Verdict, order_verdict};
 
 #[test]
@@ -26,7 +27,7 @@ fn records_about_limits() -> Vec<(Observation, u64, u64)> {
             for (windows, class_letter) in [(1, b'A'), (7, b'A'), (1, b'B'), (45_000, b'B')] {
                 let limit = order_limit(order, class_letter).unwrap();
                 let units = limit.numerator * scale / (1_000 * limit.denominator);
-                let (mut record, _) = fresh_record(12);
+                let (mut record, _) = fresh_record(Setup::edition_2(12));
                 record.windows = windows;
                 record.sum[order as usize - 1] = windows * near(units);
                 record.peak[order as usize - 1] = near(units * 3 / 2);

@@ -1,9 +1,9 @@
-//! The confusions that document 01 expects, and those about class B: each test
-//! names one and shows that this program does not share it.
+//! The confusions that document 01 expects, and those about class B and edition
+//! 2.0 A1: each test names one and shows that this program does not share it.
 
 use reference::groups::{Kind, group_value};
 use reference::observation::{add_row, fresh_record, smoothed_value};
-use reference::rows::Row;
+use reference::rows::{Row, Setup};
 use reference::spectrum::LINE_COUNT;
 use reference::verdict::{Question, Verdict, order_verdict};
 
@@ -11,21 +11,23 @@ use reference::verdict::{Question, Verdict, order_verdict};
 fn enters(kind: Kind, system: u64, line: u64) -> bool {
     let mut lines = [0; LINE_COUNT];
     lines[line as usize] = 1 << 40;
-    group_value(kind, system, 5, &lines).unwrap() > 0
+    group_value(kind, Setup::edition_2(system), 5, &lines).unwrap() > 0
 }
 
 #[test]
 fn edge_lines_have_half_weight() {
     let pulse = [4_000_000; LINE_COUNT];
-    assert_eq!(group_value(Kind::HarmonicGroup, 10, 1, &pulse), Ok(8_944));
+    let value = |system, order, lines: &[u64]| {
+        group_value(Kind::HarmonicGroup, Setup::edition_2(system), order, lines)
+    };
+    assert_eq!(value(10, 1, &pulse), Ok(8_944));
     for system in [10, 12] {
         let mut edges = [0; LINE_COUNT];
         edges[(system * 5 - system / 2) as usize] = 1 << 40;
         edges[(system * 5 + system / 2) as usize] = 1 << 40;
         let mut centre = [0; LINE_COUNT];
         centre[system as usize * 5] = 1 << 40;
-        let both_edges = group_value(Kind::HarmonicGroup, system, 5, &edges);
-        assert_eq!(both_edges, group_value(Kind::HarmonicGroup, system, 5, &centre));
+        assert_eq!(value(system, 5, &edges), value(system, 5, &centre));
     }
 }
 
@@ -61,8 +63,9 @@ fn values_are_smoothed_and_not_their_squares() {
 /// The verdict on one window with a value at every order, at a million units per
 /// ampere.
 fn verdict_on(value: u32, order: u64, class_letter: u8) -> Verdict {
-    let (record, _) = fresh_record(10);
-    let (record, _) = add_row(record, &Row { system: 10, values: [value; 40] });
+    let setup = Setup::edition_2(10);
+    let (record, _) = fresh_record(setup);
+    let (record, _) = add_row(record, &Row { setup, values: [value; 40] });
     order_verdict(&record, Question { order, class_letter, scale: 1_000_000 }).unwrap()
 }
 
@@ -94,4 +97,24 @@ fn band_lies_on_both_sides_and_is_not_wider_in_class_b() {
             assert_ne!(sides[0], sides[1]);
         }
     }
+}
+
+#[test]
+fn a1_takes_no_lines_from_any_group_but_that_of_order_1() {
+    // "Groups interharmonics from the second order up" could be read of the
+    // interharmonic kinds, of the subgroup, or of the edge that orders 1 and 2 share.
+    let values = |kind, order, line: usize| {
+        let mut lines = [0; LINE_COUNT];
+        lines[line] = 1 << 40;
+        let setups = [Setup::edition_2(10), Setup::edition_a1(10)];
+        setups.map(|setup| group_value(kind, setup, order, &lines).unwrap())
+    };
+    let (half, whole) = (1 << 20, 1_482_910);
+    assert_eq!(values(Kind::HarmonicGroup, 1, 15), [half, 0]);
+    assert_eq!(values(Kind::HarmonicGroup, 2, 15), [half; 2]);
+    assert_eq!(values(Kind::HarmonicGroup, 1, 11), [whole, 0]);
+    assert_eq!(values(Kind::HarmonicGroup, 1, 10), [whole; 2]);
+    assert_eq!(values(Kind::HarmonicSubgroup, 1, 11), [whole; 2]);
+    assert_eq!(values(Kind::InterharmonicGroup, 1, 11), [whole; 2]);
+    assert_eq!(values(Kind::InterharmonicCentredSubgroup, 1, 12), [whole; 2]);
 }

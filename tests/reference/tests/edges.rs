@@ -8,7 +8,7 @@ use reference::listing::{fill_listing, listing_text};
 use reference::observation::{Observation, add_row, fresh_record, is_sound, smoothed_value};
 use reference::random::Random;
 use reference::refusals::Refusal;
-use reference::rows::{LARGEST_VALUE, Row};
+use reference::rows::{LARGEST_VALUE, Row, SYSTEMS, Setup};
 use reference::signals::{halfway_window, noise, plain_windows, pulse, square_wave};
 use reference::spectrum::{LARGEST_LINE, LINE_COUNT, WINDOW_LENGTH, lines_of, spectrum};
 use reference::table::wave;
@@ -128,44 +128,57 @@ fn group_value_refuses_in_order() {
     above[511] = LARGEST_LINE + 1;
     let long = vec![u64::MAX; LINE_COUNT + 1];
     for kind in Kind::ALL {
-        for (system, order, lines, expected) in [
-            (11, 0, &long, Refusal::UnknownSystem),
-            (0, 1, &good, Refusal::UnknownSystem),
-            (10, 0, &long, Refusal::OrderOutOfRange),
-            (12, 41, &above, Refusal::OrderOutOfRange),
-            (12, u64::MAX, &good, Refusal::OrderOutOfRange),
-            (10, 1, &long, Refusal::WrongLineCount),
-            (12, 40, &above, Refusal::LineTooLarge),
+        for (system, edition, order, lines, expected) in [
+            (11, 2, 0, &long, Refusal::UnknownSystem),
+            (11, 2, 1, &good, Refusal::UnknownSystem),
+            (0, 0, 1, &good, Refusal::UnknownSystem),
+            (10, 2, 0, &long, Refusal::UnknownEdition),
+            (12, 2, 41, &good, Refusal::UnknownEdition),
+            (12, u64::MAX, 1, &good, Refusal::UnknownEdition),
+            (10, 0, 0, &long, Refusal::OrderOutOfRange),
+            (12, 1, 41, &above, Refusal::OrderOutOfRange),
+            (12, 0, u64::MAX, &good, Refusal::OrderOutOfRange),
+            (10, 1, 1, &long, Refusal::WrongLineCount),
+            (12, 0, 40, &above, Refusal::LineTooLarge),
+            (12, 1, 1, &above, Refusal::LineTooLarge),
         ] {
-            assert_eq!(group_value(kind, system, order, lines), Err(expected));
+            let setup = Setup { system, edition };
+            assert_eq!(group_value(kind, setup, order, lines), Err(expected));
         }
     }
 }
 
 #[test]
 fn every_line_of_the_buffer_is_checked() {
-    for place in 0..LINE_COUNT {
-        let mut lines = [0; LINE_COUNT];
-        lines[place] = LARGEST_LINE;
-        assert!(group_value(Kind::Component, 10, 1, &lines).is_ok());
-        lines[place] = LARGEST_LINE + 1;
-        let result = group_value(Kind::Component, 10, 1, &lines);
-        assert_eq!(result, Err(Refusal::LineTooLarge));
+    for setup in Setup::ALL {
+        for place in 0..LINE_COUNT {
+            let mut lines = [0; LINE_COUNT];
+            lines[place] = LARGEST_LINE;
+            assert!(group_value(Kind::HarmonicGroup, setup, 1, &lines).is_ok());
+            lines[place] = LARGEST_LINE + 1;
+            let result = group_value(Kind::HarmonicGroup, setup, 1, &lines);
+            assert_eq!(result, Err(Refusal::LineTooLarge));
+        }
     }
 }
 
 #[test]
 fn greatest_lines_give_values_of_32_bits() {
-    for system in [10, 12] {
+    let lines = [LARGEST_LINE; LINE_COUNT];
+    for setup in Setup::ALL {
         for kind in Kind::ALL {
-            let values = group_row(kind, system, &[LARGEST_LINE; LINE_COUNT]).unwrap().values;
-            let wide = group_value(kind, system, 40, &[LARGEST_LINE; LINE_COUNT]).unwrap();
-            assert_eq!(u64::from(values[39]), wide);
+            let values = group_row(kind, setup, &lines).unwrap().values;
+            for order in [1, 40] {
+                let wide = group_value(kind, setup, order, &lines).unwrap();
+                assert_eq!(u64::from(values[order as usize - 1]), wide);
+            }
         }
     }
-    // 24 × 2^59 is the greatest sum; its root is 3719550786.
-    let greatest = group_value(Kind::HarmonicGroup, 12, 1, &[LARGEST_LINE; LINE_COUNT]);
-    assert_eq!(greatest, Ok(3_719_550_786));
+    // 24 × 2^59 is the greatest sum; its root is 3719550786. The component's is 2^30.
+    let group = |setup, order| group_value(Kind::HarmonicGroup, setup, order, &lines);
+    assert_eq!(group(Setup::edition_2(12), 1), Ok(3_719_550_786));
+    assert_eq!(group(Setup::edition_a1(12), 2), Ok(3_719_550_786));
+    assert_eq!(group(Setup::edition_a1(12), 1), Ok(1 << 30));
 }
 
 #[test]
@@ -195,26 +208,41 @@ fn distortion_is_the_largest_such_number() {
     assert_eq!(distortion(&alone), Ok(0));
 }
 
-fn row(system: u64, value: u32) -> Row {
-    Row { system, values: [value; 40] }
+fn row(setup: Setup, value: u32) -> Row {
+    Row { setup, values: [value; 40] }
 }
 
 /// A sound record of so many windows, all at the greatest value.
 fn full_record(windows: u64) -> Observation {
-    let (fresh, _) = fresh_record(10);
+    let (fresh, _) = fresh_record(Setup::edition_2(10));
     let full = [LARGEST_VALUE; 40];
     Observation { windows, smoothed: full, sum: [windows * LARGEST_VALUE; 40], peak: full, ..fresh }
 }
 
 #[test]
 fn fresh_record_holds_zeros() {
-    for system in [10, 12] {
-        let (record, refusal) = fresh_record(system);
-        assert_eq!((record.system, record.windows, refusal), (system, 0, None));
+    for setup in Setup::ALL {
+        let (record, refusal) = fresh_record(setup);
+        assert_eq!((record.setup, record.windows, refusal), (setup, 0, None));
         assert_eq!([record.smoothed, record.sum, record.peak], [[0; 40]; 3]);
     }
+}
+
+#[test]
+fn refused_fresh_record_is_of_system_10_and_edition_2() {
+    let refused = |system, edition| fresh_record(Setup { system, edition });
+    let fresh = fresh_record(Setup { system: 10, edition: 0 }).0;
     for system in [0, 11, 13, u64::MAX] {
-        assert_eq!(fresh_record(system), (fresh_record(10).0, Some(Refusal::UnknownSystem)));
+        for edition in [0, 1, 2, u64::MAX] {
+            let expected = (fresh.clone(), Some(Refusal::UnknownSystem));
+            assert_eq!(refused(system, edition), expected);
+        }
+    }
+    for system in SYSTEMS {
+        for edition in [2, 10, u64::from(u32::MAX), 1 << 32, u64::MAX] {
+            let expected = (fresh.clone(), Some(Refusal::UnknownEdition));
+            assert_eq!(refused(system, edition), expected);
+        }
     }
 }
 
@@ -223,14 +251,23 @@ fn soundness_has_each_of_its_parts() {
     assert!(is_sound(&full_record(1)));
     assert!(is_sound(&full_record(45_000)));
     assert!(!is_sound(&full_record(45_001)));
-    assert!(!is_sound(&Observation { system: 11, ..full_record(1) }));
+    for setup in Setup::ALL {
+        assert!(is_sound(&Observation { setup, ..full_record(1) }));
+        let system = setup.system + 1;
+        assert!(!is_sound(&Observation { setup: Setup { system, ..setup }, ..full_record(1) }));
+        for edition in [2, u64::from(u32::MAX), 1 << 32, (1 << 32) + 1, u64::MAX] {
+            let setup = Setup { edition, ..setup };
+            assert!(!is_sound(&Observation { setup, ..full_record(1) }));
+            assert!(!is_sound(&Observation { setup, ..fresh_record(Setup::edition_2(10)).0 }));
+        }
+    }
     let edits: [fn(&mut Observation); 3] = [
         |record| record.sum[7] += 1,
         |record| record.peak[7] += 1,
         |record| record.smoothed[7] += 1,
     ];
     for edit in edits {
-        for mut record in [full_record(3), fresh_record(12).0] {
+        for mut record in [full_record(3), fresh_record(Setup::edition_a1(12)).0] {
             assert!(is_sound(&record));
             edit(&mut record);
             assert!(!is_sound(&record));
@@ -240,33 +277,63 @@ fn soundness_has_each_of_its_parts() {
 
 #[test]
 fn add_row_refuses_in_order_and_leaves_the_record() {
-    let unsound = full_record(45_001);
-    let full = full_record(45_000);
-    for (record, system, expected) in [
-        (&unsound, 11, Refusal::UnsoundRecord),
-        (&unsound, 10, Refusal::UnsoundRecord),
-        (&full, 11, Refusal::UnknownSystem),
-        (&full, 12, Refusal::OtherSystem),
-        (&full, 10, Refusal::RecordFull),
-    ] {
-        let (after, refusal) = add_row(record.clone(), &row(system, 1));
-        assert_eq!((&after, refusal), (record, Some(expected)));
+    // The edition of the record, and the other; 2 is none.
+    for (own, other) in [(0, 1), (1, 0)] {
+        let of = |record: Observation| Observation {
+            setup: Setup { system: 10, edition: own },
+            ..record
+        };
+        let unsound = of(full_record(45_001));
+        let full = of(full_record(45_000));
+        for (record, system, edition, expected) in [
+            (&unsound, 11, 2, Refusal::UnsoundRecord),
+            (&unsound, 11, own, Refusal::UnsoundRecord),
+            (&unsound, 10, own, Refusal::UnsoundRecord),
+            (&full, 11, 2, Refusal::UnknownSystem),
+            (&full, 11, own, Refusal::UnknownSystem),
+            (&full, 12, 2, Refusal::UnknownEdition),
+            (&full, 10, 2, Refusal::UnknownEdition),
+            (&full, 12, own, Refusal::OtherSetup),
+            (&full, 10, other, Refusal::OtherSetup),
+            (&full, 12, other, Refusal::OtherSetup),
+            (&full, 10, own, Refusal::RecordFull),
+        ] {
+            let (after, refusal) = add_row(record.clone(), &row(Setup { system, edition }, 1));
+            assert_eq!((&after, refusal), (record, Some(expected)));
+        }
+        let last = row(Setup { system: 10, edition: own }, u32::MAX);
+        let (after, refusal) = add_row(of(full_record(44_999)), &last);
+        assert_eq!((after, refusal), (full, None));
     }
-    let (after, refusal) = add_row(full_record(44_999), &row(10, u32::MAX));
-    assert_eq!((after, refusal), (full, None));
+}
+
+#[test]
+fn row_of_the_other_edition_is_refused_though_its_values_are_alike() {
+    // The components of a window do not depend on the edition.
+    let lines = lines_of(&pulse(WINDOW_LENGTH, 0, 1_000).samples, 0).unwrap();
+    for record_setup in Setup::ALL {
+        for row_setup in Setup::ALL {
+            let row = group_row(Kind::Component, row_setup, &lines).unwrap();
+            let (_, refusal) = add_row(fresh_record(record_setup).0, &row);
+            let expected = (record_setup != row_setup).then_some(Refusal::OtherSetup);
+            assert_eq!(refusal, expected, "{row_setup:?} into {record_setup:?}");
+        }
+    }
 }
 
 #[test]
 fn sums_and_peaks_are_of_smoothed_values() {
-    let (mut record, _) = fresh_record(12);
-    for value in [8_944, 0, 8_944] {
-        record = add_row(record, &row(12, value)).0;
+    for setup in Setup::ALL {
+        let (mut record, _) = fresh_record(setup);
+        for value in [8_944, 0, 8_944] {
+            record = add_row(record, &row(setup, value)).0;
+        }
+        let last = smoothed_value(8_944, 7_828);
+        assert_eq!((record.setup, record.windows), (setup, 3));
+        assert_eq!(record.smoothed, [last; 40]);
+        assert_eq!(record.sum, [8_944 + 7_828 + last; 40]);
+        assert_eq!(record.peak, [8_944; 40]);
     }
-    let last = smoothed_value(8_944, 7_828);
-    assert_eq!(record.windows, 3);
-    assert_eq!(record.smoothed, [last; 40]);
-    assert_eq!(record.sum, [8_944 + 7_828 + last; 40]);
-    assert_eq!(record.peak, [8_944; 40]);
 }
 
 #[test]
@@ -290,10 +357,13 @@ fn smoothing_rounds_to_the_nearest() {
 
 #[test]
 fn verdict_refuses_in_order() {
-    let (fresh, _) = fresh_record(10);
+    let (fresh, _) = fresh_record(Setup::edition_2(10));
     let held = full_record(1);
+    let of_no_edition = Observation { setup: Setup { system: 10, edition: 2 }, ..fresh.clone() };
     for (record, order, class_letter, scale, expected) in [
         (&full_record(45_001), 1, b'C', 0, Refusal::UnsoundRecord),
+        (&of_no_edition, 1, b'C', 0, Refusal::UnsoundRecord),
+        (&of_no_edition, 3, b'A', 1, Refusal::UnsoundRecord),
         (&fresh, 1, b'C', 0, Refusal::NoWindow),
         (&fresh, 3, b'A', 1, Refusal::NoWindow),
         (&fresh, 3, b'C', 1, Refusal::NoWindow),
@@ -331,7 +401,7 @@ fn only_two_letters_are_taken() {
 
 /// The verdict on an order in a class, of a record with a sum and a peak there.
 fn verdict_of(question: Question, windows: u64, sum: u64, peak: u64) -> Verdict {
-    let (mut record, _) = fresh_record(10);
+    let (mut record, _) = fresh_record(Setup::edition_2(10));
     record.windows = windows;
     record.sum[question.order as usize - 1] = sum;
     record.peak[question.order as usize - 1] = peak;

@@ -6,6 +6,7 @@ use reference::harmlist::harmlist;
 use reference::inputs::{all_inputs, input_bytes};
 use reference::listing::listing_text;
 use reference::observation::{add_row, fresh_record};
+use reference::rows::Setup;
 use reference::signals::{constant, microwave_oven};
 use reference::spectrum::{WINDOW_LENGTH, lines_of};
 
@@ -21,12 +22,13 @@ fn one_window_and(rest: &[u8]) -> Vec<u8> {
 #[test]
 fn groups_are_the_last_windows_and_smoothed_that_of_all() {
     let samples = microwave_oven(5 * WINDOW_LENGTH, 12, 100_000.0, 17, 9).samples;
-    let (mut record, _) = fresh_record(12);
+    let setup = Setup::edition_2(12);
+    let (mut record, _) = fresh_record(setup);
     let mut last = ([0; 40], [0; 40]);
     for window in samples.chunks(WINDOW_LENGTH) {
         let lines = lines_of(window, 0).unwrap();
-        let group = group_row(Kind::HarmonicGroup, 12, &lines).unwrap();
-        last = (group.values, group_row(Kind::HarmonicSubgroup, 12, &lines).unwrap().values);
+        let group = group_row(Kind::HarmonicGroup, setup, &lines).unwrap();
+        last = (group.values, group_row(Kind::HarmonicSubgroup, setup, &lines).unwrap().values);
         record = add_row(record, &group).0;
     }
     let smoothed = record.smoothed.map(|value| value as u32);

@@ -12,7 +12,7 @@ use reference::listing::fill_listing;
 use reference::observation::{MOST_WINDOWS, Observation, add_row, fresh_record};
 use reference::observe::observe;
 use reference::refusals::{Refusal, number_or_zero};
-use reference::rows::Row;
+use reference::rows::{Row, Setup};
 use reference::spectrum::{LARGEST_LINE, WINDOW_LENGTH, lines_from, spectrum};
 use reference::verdict::{LARGEST_SCALE, Question, order_verdict};
 use std::collections::BTreeSet;
@@ -69,7 +69,7 @@ fn document() -> Vec<Listed> {
 
 /// All that any call is lent.
 struct Arguments {
-    system: u64,
+    setup: Setup,
     order: u64,
     class_letter: u8,
     scale: u64,
@@ -90,7 +90,7 @@ struct Arguments {
 /// Arguments that no call refuses.
 fn good() -> Arguments {
     Arguments {
-        system: 10,
+        setup: Setup::edition_2(10),
         order: 3,
         class_letter: b'B',
         scale: 1,
@@ -100,7 +100,7 @@ fn good() -> Arguments {
         first: 512,
         lines: vec![LARGEST_LINE; 512],
         values: [1; 40],
-        record: Observation { windows: MOST_WINDOWS - 1, ..fresh_record(10).0 },
+        record: Observation { windows: MOST_WINDOWS - 1, ..fresh_record(Setup::edition_2(10)).0 },
         text: b"      -7".to_vec(),
         number: -9_999_999,
         column: vec![0; 8],
@@ -142,9 +142,14 @@ fn refusal_number(refusal: Option<Refusal>) -> u8 {
     refusal.map_or(0, Refusal::number)
 }
 
+fn run_add_row(a: &mut Arguments) -> u8 {
+    let row = Row { setup: a.setup, values: a.values };
+    refusal_number(add_row(a.record.clone(), &row).1)
+}
+
 fn run_observe(a: &mut Arguments) -> u8 {
     let kind = Kind::HarmonicGroup;
-    number_or_zero(&observe(&a.recording, a.start, a.windows, a.system, kind))
+    number_or_zero(&observe(&a.recording, a.start, a.windows, a.setup, kind))
 }
 
 /// The number of the line that is written in place of a listing.
@@ -155,7 +160,13 @@ fn run_harmlist(a: &mut Arguments) -> u8 {
 
 fn trials() -> Vec<Trial> {
     let system = "system not 10 or 12";
-    let systems: [Fault; 2] = [(1, system, |a| a.system = 0), (1, system, |a| a.system = 11)];
+    let edition = "edition not 0 or 1";
+    let setups: [Fault; 4] = [
+        (1, system, |a| a.setup.system = 0),
+        (1, system, |a| a.setup.system = 11),
+        (19, edition, |a| a.setup.edition = 2),
+        (19, edition, |a| a.setup.edition = u64::from(u32::MAX)),
+    ];
     let short = "fewer than 2,048 samples from start";
     let short_windows: [Fault; 2] =
         [(2, short, |a| a.start = WINDOW_LENGTH + 1), (2, short, |a| a.start = usize::MAX)];
@@ -193,11 +204,16 @@ fn trials() -> Vec<Trial> {
         (15, letter, |a| a.class_letter = u8::MAX),
     ];
     let unsound = "record not sound";
+    let held_edition: [Fault; 1] = [(7, unsound, |a| a.record.setup.edition = 2)];
     let records: [Fault; 3] = [
         (7, unsound, |a| a.record.smoothed[0] = 1 << 32),
         (7, unsound, |a| a.record.sum[20] = u64::MAX),
         (7, unsound, |a| a.record.peak[39] = 1 << 32),
     ];
+    let other = "system or edition differs from the record's";
+    let other_system: [Fault; 1] = [(8, other, |a| a.record.setup.system = 12)];
+    let other_edition: [Fault; 1] = [(8, other, |a| a.record.setup.edition = 1)];
+    let full: [Fault; 1] = [(9, "45,000 windows held", |a| a.record.windows = MOST_WINDOWS)];
     let scale = "K outside 1..2^28";
     let form = "text not 8 bytes of the form";
     let (column, wide) = ("buffer not 8 bytes", "number wider than 8");
@@ -213,8 +229,9 @@ fn trials() -> Vec<Trial> {
         good,
         faults: faults.concat(),
     };
-    let observed =
-        |faults: &[&[Fault]]| trial("observe", "a record of zeros, system 10", run_observe, faults);
+    let added = |faults: &[&[Fault]]| trial("add row", "the record unchanged", run_add_row, faults);
+    let zeros = "a record of zeros, system 10, edition 0";
+    let observed = |faults: &[&[Fault]]| trial("observe", zeros, run_observe, faults);
     let listed = |faults: &[Fault]| {
         trial("harmlist", "only the line `refused` with the number", run_harmlist, &[faults])
     };
@@ -238,14 +255,14 @@ fn trials() -> Vec<Trial> {
         trial(
             "group value",
             "value 0",
-            |a| number_or_zero(&group_value(Kind::HarmonicGroup, a.system, a.order, &a.lines)),
-            &[&systems, &[(6, order, |a| a.order = 0), (6, order, |a| a.order = 41)], &lines],
+            |a| number_or_zero(&group_value(Kind::HarmonicGroup, a.setup, a.order, &a.lines)),
+            &[&setups, &[(6, order, |a| a.order = 0), (6, order, |a| a.order = 41)], &lines],
         ),
         trial(
             "row",
-            "a row of zeros, system 10",
-            |a| number_or_zero(&group_row(Kind::HarmonicGroup, a.system, &a.lines)),
-            &[&systems, &lines],
+            "a row of zeros, system 10, edition 0",
+            |a| number_or_zero(&group_row(Kind::HarmonicGroup, a.setup, &a.lines)),
+            &[&setups, &lines],
         ),
         trial(
             "distortion",
@@ -253,28 +270,11 @@ fn trials() -> Vec<Trial> {
             |a| number_or_zero(&distortion(&a.values)),
             &[&[(12, "group 1 is 0", |a| a.values[0] = 0)]],
         ),
-        trial(
-            "fresh record",
-            "a record of zeros, system 10",
-            |a| refusal_number(fresh_record(a.system).1),
-            &[&systems],
-        ),
-        trial(
-            "add row",
-            "the record unchanged",
-            |a| {
-                let row = Row { system: a.system, values: a.values };
-                refusal_number(add_row(a.record.clone(), &row).1)
-            },
-            &[
-                &records,
-                &systems,
-                &[(8, "system differs from the record's", |a| a.record.system = 12)],
-                &[(9, "45,000 windows held", |a| a.record.windows = MOST_WINDOWS)],
-            ],
-        ),
+        trial("fresh record", zeros, |a| refusal_number(fresh_record(a.setup).1), &[&setups]),
+        added(&[&records, &setups, &other_system, &other_edition, &full]),
+        added(&[&held_edition, &setups, &other_system, &full]),
         observed(&[
-            &systems,
+            &setups,
             &[
                 (2, short_observed, |a| a.recording.truncate(WINDOW_LENGTH - 1)),
                 (3, sample_observed, |a| a.recording[0] = 131_072),
@@ -282,7 +282,7 @@ fn trials() -> Vec<Trial> {
             ],
         ]),
         observed(&[
-            &systems,
+            &setups,
             &[
                 (2, short_observed, |a| a.recording.truncate(2 * WINDOW_LENGTH - 1)),
                 (3, sample_observed, |a| a.recording[WINDOW_LENGTH] = i32::MIN),
@@ -316,6 +316,7 @@ fn trials() -> Vec<Trial> {
             },
             &[
                 &records,
+                &held_edition,
                 &[(10, "no window yet", |a| a.record.windows = 0)],
                 &limited_orders,
                 &letters,

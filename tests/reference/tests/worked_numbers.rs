@@ -1,4 +1,5 @@
-//! The worked numbers of document 01, by their marks, and the worked listing.
+//! The worked numbers of document 01, by their marks, which keep edition 2, the
+//! pulse under edition 2.0 A1 (document 02, card 7), and the worked listing.
 
 use reference::columns::read_column;
 use reference::groups::{Kind, group_row, group_value};
@@ -6,7 +7,7 @@ use reference::harmlist::harmlist;
 use reference::inputs::input_bytes;
 use reference::observation::{Observation, add_row, fresh_record};
 use reference::refusals::Refusal;
-use reference::rows::Row;
+use reference::rows::{Row, Setup};
 use reference::signals::{constant, pulse};
 use reference::spectrum::{WINDOW_LENGTH, lines_of};
 use reference::table::quarter_wave;
@@ -19,9 +20,10 @@ fn pulse_lines() -> [u64; 512] {
 
 /// The record after rows that hold one value at all orders.
 fn record_of(system: u64, values: &[u32]) -> Observation {
-    let (fresh, _) = fresh_record(system);
+    let setup = Setup::edition_2(system);
+    let (fresh, _) = fresh_record(setup);
     values.iter().fold(fresh, |record, &value| {
-        let (record, refusal) = add_row(record, &Row { system, values: [value; 40] });
+        let (record, refusal) = add_row(record, &Row { setup, values: [value; 40] });
         assert_eq!(refusal, None);
         record
     })
@@ -52,8 +54,30 @@ fn numbers_3_to_7_groups_of_the_pulse() {
         (Kind::InterharmonicCentredSubgroup, 7_483, 8_485),
     ] {
         for (system, value) in [(10, at_10), (12, at_12)] {
-            let row = Row { system, values: [value; 40] };
-            assert_eq!(group_row(kind, system, &pulse_lines()), Ok(row), "{kind:?}");
+            let setup = Setup::edition_2(system);
+            let row = Row { setup, values: [value; 40] };
+            assert_eq!(group_row(kind, setup, &pulse_lines()), Ok(row), "{kind:?}");
+        }
+    }
+}
+
+#[test]
+fn groups_of_the_pulse_under_a1() {
+    // Of each kind the value of order 1 and that of the orders 2..40.
+    for (kind, at_10, at_12) in [
+        (Kind::Component, [2_828, 2_828], [2_828, 2_828]),
+        (Kind::HarmonicSubgroup, [4_898, 4_898], [4_898, 4_898]),
+        (Kind::HarmonicGroup, [2_828, 8_944], [2_828, 9_797]),
+        (Kind::InterharmonicGroup, [8_485, 8_485], [9_380, 9_380]),
+        (Kind::InterharmonicCentredSubgroup, [7_483, 7_483], [8_485, 8_485]),
+    ] {
+        for (system, [first, later]) in [(10, at_10), (12, at_12)] {
+            let setup = Setup { system, edition: 1 };
+            let mut values = [later; 40];
+            values[0] = first;
+            assert_eq!(group_row(kind, setup, &pulse_lines()), Ok(Row { setup, values }));
+            let [of_1, of_2] = [1, 2].map(|order| group_value(kind, setup, order, &pulse_lines()));
+            assert_eq!([of_1, of_2], [Ok(first.into()), Ok(later.into())], "{kind:?}");
         }
     }
 }
@@ -96,7 +120,7 @@ fn unmarked_sample_range() {
 
 #[test]
 fn unmarked_orders() {
-    let value = |order| group_value(Kind::Component, 12, order, &pulse_lines());
+    let value = |order| group_value(Kind::Component, Setup::edition_2(12), order, &pulse_lines());
     assert_eq!(value(40), Ok(2_828));
     assert_eq!(value(41), Err(Refusal::OrderOutOfRange));
     assert_eq!(

@@ -10,6 +10,7 @@ use Rattle.observation.specs.declared.Observation.{Observation}
 use Rattle.observation.specs.Calls.{withRow, addRowRefusal, addRowAnswer}
 use Rattle.record_words.specs.Words.{recordWords, recordRead, wordsOf}
 use Rattle.record_words.proofs.Words.{recordRead-same}
+use Rattle.rows.specs.Setups.{setupOf}
 use Rattle.exported_answers.specs.OwnChecks.{wordCountCheck}
 use Rattle.exported_records.specs.RecordCalls.{lentRow, addRowCallRefusal, addRowCallExit}
 use Rattle.exported_answers.proofs.Handed.{own-refused, count-passed}
@@ -42,7 +43,7 @@ returns-2 c =
     let a = at-own .before .before .before .before .before .args in
     let words = a .words .now in
     let values = a .values .now in
-    let row = lentRow (a .system) values in
+    let row = lentRow (setupOf (a .system) (a .edition)) values in
     let passed = sym (own (at-own .before)) ∙ at-own .if1 .left in
     let whole = count-passed recordWords _ words passed in
     let whole-row = count-passed orderCount noRefusal values (whole .1) .0 in

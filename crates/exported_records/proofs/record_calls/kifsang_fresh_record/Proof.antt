@@ -4,6 +4,7 @@ use borrow.Author.Needs.{needs}
 use Rattle.observation.specs.declared.Observation.{Observation}
 use Rattle.observation.specs.Calls.{emptyRecord, refusedRecord, freshRefusal, freshAnswer}
 use Rattle.record_words.specs.Words.{recordWords}
+use Rattle.rows.specs.Setups.{setupOf}
 use Rattle.exported_records.specs.RecordCalls.{freshCallRefusal, freshCallExit}
 use Rattle.exported_answers.proofs.Handed.{own-refused, count-passed}
 use Rattle.record_words.proofs.Handed.{handed-record}
@@ -25,8 +26,8 @@ returns-2 c =
     rw passed
     (handed-record
     (λ (x : Observation). x)
-    (freshRefusal (a .system))
-    (emptyRecord (a .system))
+    (freshRefusal (setupOf (a .system) (a .edition)))
+    (emptyRecord (setupOf (a .system) (a .edition)))
     refusedRecord
     (a .words .now)
     _

@@ -5,6 +5,7 @@ use borrow.Author.Needs.{needs}
 use Rattle.refusals.specs.Numbers.{noRefusal}
 use Rattle.refusals.specs.Answers.{firstFault}
 use Rattle.groups.specs.Group.{groupRefusal, groupValue, groupAnswer}
+use Rattle.rows.specs.Setups.{setupOf}
 use Rattle.exported_windows.specs.Kinds.{kindWith, kindCheck}
 use Rattle.exported_windows.specs.GroupCalls.{groupCallRefusal, groupCallExit}
 use Rattle.exported_answers.proofs.Handed.{own-refused, handed-answer}
@@ -27,12 +28,12 @@ returns-2 c =
     let at-own = at-kind .before in
     let a = at-own .before .before .before .before .args in
     let passed : firstFault (kindCheck (a .kind) ∷ []) ≡ noRefusal = sym (own (at-own .before)) ∙ at-own .if1 .left in
-    let answered : at-call .group-value .result ≡ groupAnswer (kindWith (a .kind)) (a .system) (a .order) (a .lines .now) =
+    let answered : at-call .group-value .result ≡ groupAnswer (kindWith (a .kind)) (setupOf (a .system) (a .edition)) (a .order) (a .lines .now) =
     rw (← at-kind .kind-with .ensures) (at-call .group-value .ensures) in
     rw passed
     (handed-answer
-    (groupRefusal (a .system) (a .order) (a .lines .now))
-    (groupValue (kindWith (a .kind)) (a .system) (a .order) (a .lines .now))
+    (groupRefusal (setupOf (a .system) (a .edition)) (a .order) (a .lines .now))
+    (groupValue (kindWith (a .kind)) (setupOf (a .system) (a .edition)) (a .order) (a .lines .now))
     (a .value .now)
     _
     _

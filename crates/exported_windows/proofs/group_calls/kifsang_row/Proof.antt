@@ -9,6 +9,8 @@ use Rattle.algebra.proofs.Lists.{length-tabulate}
 use Rattle.refusals.specs.Numbers.{noRefusal}
 use Rattle.refusals.proofs.Answers.{no-fault}
 use Rattle.rows.specs.Orders.{orderCount}
+use Rattle.rows.specs.Setups.{setupOf}
+use Rattle.rows.specs.declared.Setup.{Setup}
 use Rattle.exported_answers.proofs.LentWords.{wordsFrom-whole}
 use Rattle.groups.specs.Group.{groupValues, groupRowAnswer}
 use Rattle.groups.specs.declared.Kind.{Kind}
@@ -19,9 +21,9 @@ use Rattle.exported_answers.proofs.Handed.{own-refused, count-passed}
 use Rattle.exported_windows.proofs.group_calls.kifsang_row.Statement.{statement}
 use Rattle.exported_windows.proofs.group_calls.kifsang_row.Tie as tie
 
-groupValues-length : (kind : Kind) (system : ℕ) (lines : List ℕ) → length (groupValues kind system lines) ≡ orderCount
+groupValues-length : (kind : Kind) (setup : Setup) (lines : List ℕ) → length (groupValues kind setup lines) ≡ orderCount
 unfolding groupValues
-groupValues-length kind system lines = length-tabulate orderCount _
+groupValues-length kind setup lines = length-tabulate orderCount _
 
 returns : tie.Need-returns
 unfolding rowCallRefusal rowCallExit
@@ -35,11 +37,11 @@ returns-2 c =
     let at-kind = at-call .before in
     let at-own = at-kind .before in
     let a = at-own .before .before .before .before .args in
-    let answered : at-call .group-row .result ≡ groupRowAnswer (kindWith (a .kind)) (a .system) (a .lines .now) =
+    let answered : at-call .group-row .result ≡ groupRowAnswer (kindWith (a .kind)) (setupOf (a .system) (a .edition)) (a .lines .now) =
     rw (← at-kind .kind-with .ensures) (at-call .group-row .ensures) in
     let passed = sym (at-own .before .own-refusal .ensures) ∙ at-own .if1 .left in
     let room = count-passed orderCount noRefusal (a .values .now) (no-fault (kindCheck (a .kind) .0) unknownKind _ (omega arith) passed .1) .0 in
-    let whole = wordsFrom-whole (groupValues (kindWith (a .kind)) (a .system) (a .lines .now)) orderCount (groupValues-length _ _ _) in
+    let whole = wordsFrom-whole (groupValues (kindWith (a .kind)) (setupOf (a .system) (a .edition)) (a .lines .now)) orderCount (groupValues-length _ _ _) in
     rw passed (rw (answered, groupRowAnswer-values, room, whole) at (at-hand .hand-over-row .ensures))
 
 pub kifsang-row-spec : {M : Type 1} → statement M

@@ -9,6 +9,7 @@ use Rattle.observation.specs.Calls.{emptyRecord, refusedRecord}
 use Rattle.observation.specs.RecordAfter.{recordAfter}
 use Rattle.observe.specs.Observe.{windowRows, observeRefusal, observeAnswer}
 use Rattle.record_words.specs.Words.{recordWords}
+use Rattle.rows.specs.Setups.{setupOf}
 use Rattle.exported_windows.specs.Kinds.{unknownKind, kindWith, kindCheck}
 use Rattle.exported_windows.specs.ObserveCall.{observeCallRefusal, observeCallExit}
 use Rattle.exported_answers.proofs.Handed.{own-refused, count-passed}
@@ -30,13 +31,13 @@ returns-2 c =
     let a = at-own .before .before .before .args in
     let passed = sym (at-own .before .own-refusal .ensures) ∙ at-own .if1 .left in
     let counted = no-fault (kindCheck (a .kind) .0) unknownKind _ (omega arith) passed .1 in
-    let answered : at-call .observe .result ≡ observeAnswer (kindWith (a .kind)) (a .system) (a .recording .now) (a .start) (a .windows) =
+    let answered : at-call .observe .result ≡ observeAnswer (kindWith (a .kind)) (setupOf (a .system) (a .edition)) (a .recording .now) (a .start) (a .windows) =
     rw (← at-kind .kind-with .ensures) (at-call .observe .ensures) in
     rw passed
     (handed-record
     (λ (x : Observation). x)
-    (observeRefusal (a .system) (a .recording .now) (a .start) (a .windows))
-    (recordAfter (emptyRecord (a .system)) (windowRows (kindWith (a .kind)) (a .system) (a .recording .now) (a .start) (a .windows)))
+    (observeRefusal (setupOf (a .system) (a .edition)) (a .recording .now) (a .start) (a .windows))
+    (recordAfter (emptyRecord (setupOf (a .system) (a .edition))) (windowRows (kindWith (a .kind)) (setupOf (a .system) (a .edition)) (a .recording .now) (a .start) (a .windows)))
     refusedRecord
     (a .words .now)
     _

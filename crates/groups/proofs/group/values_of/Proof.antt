@@ -13,11 +13,11 @@ use Rattle.groups.proofs.group.values_of.Statement.{statement}
 use Rattle.groups.proofs.group.values_of.Tie as tie
 
 abbrev Inv-loop : tie.InvT-loop
-Inv-loop kind system lines values₀ i₀ values i =
-    (i ≤ orderCount) × Filled i (λ k. groupAnswer kind system (k + 1) lines .value) values₀ values
+Inv-loop kind setup lines values₀ i₀ values i =
+    (i ≤ orderCount) × Filled i (λ k. groupAnswer kind setup (k + 1) lines .value) values₀ values
 
 abbrev μ-loop : tie.MeasureT-loop
-μ-loop kind system lines values₀ i₀ values i = orderCount - i
+μ-loop kind setup lines values₀ i₀ values i = orderCount - i
 
 loop-holds : tie.Need-loop-holds Inv-loop μ-loop
 unfolding tabulate

@@ -6,17 +6,7 @@ use Rattle.observation.proofs.calls.add_row_refusal.Tie as tie
 
 returns : tie.Need-returns
 unfolding addRowRefusal rowChecks
-returns c =
-    let second = c .before .before in
-    let first = second .before in
-    rw (
-      c .fault-or4 .ensures,
-      c .before .fault-or3 .ensures,
-      second .fault-or2 .ensures,
-      first .fault-or .ensures,
-      first .before .is-system .ensures,
-      first .before .before .is-sound .ensures,
-    )
+returns c = cc
 
 pub add-row-refusal-spec : {M : Type 1} → statement M
 add-row-refusal-spec =

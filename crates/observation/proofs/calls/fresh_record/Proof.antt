@@ -6,13 +6,19 @@ use Rattle.observation.specs.Calls.{freshRefusal, freshAnswer}
 use Rattle.observation.proofs.calls.fresh_record.Statement.{statement}
 use Rattle.observation.proofs.calls.fresh_record.Tie as tie
 
-refusal-is : (c : tie.After-fault-or) → c .fault-or .result ≡ freshRefusal (c .before .before .args .system)
+refusal-is : (c : tie.After-setup-fault-or) → c .setup-fault-or .result ≡ freshRefusal (c .before .args .setup)
 unfolding freshRefusal
-refusal-is c = rw (c .fault-or .ensures, c .before .is-system .ensures)
+refusal-is c = c .setup-fault-or .ensures
 
 returns : tie.Need-returns
 unfolding freshAnswer
-returns c = rw (← refusal-is (c .before .before), ne-eqb _ _ (c .before .if1 .taken), c .empty-record .ensures)
+returns c =
+    rw (
+      ← refusal-is (c .before .before .before),
+      ne-eqb _ _ (c .before .before .if1 .taken),
+      c .empty-record .ensures,
+      c .before .refused-setup .ensures,
+    )
 
 returns-2 : tie.Need-returns-2
 unfolding freshAnswer

@@ -87,7 +87,7 @@ add-windows c = omega (arith, accepted (c .before .before) .row-accepted .room)
 returns : tie.Need-returns Inv-loop μ-loop
 unfolding withRow
 returns c =
-    let at-loop = c .before in
+    let at-loop = c .before .before in
     let o = Handed (at-loop .before) in
     let row = RowAdded (at-loop .before) in
     let sizes = long (at-loop .before) in

@@ -17,9 +17,9 @@ returns c =
       third .any-above3 .ensures,
       second .any-above2 .ensures,
       first .any-above .ensures,
-      first .before .before .before .before .is-system .ensures,
+      first .before .before .before .before .is-setup .ensures,
     )
-    (allFrom-eq true (soundTests (first .before .before .before .before .before .args .t1)))
+    (allFrom-eq true (soundTests (first .before .before .before .before .before .before .args .t1)))
 
 pub is-sound-spec : {M : Type 1} → statement M
 is-sound-spec =

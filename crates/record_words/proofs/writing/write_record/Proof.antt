@@ -26,12 +26,13 @@ returns c =
       put-smoothed .put-part2 .ensures,
       put-counts .put-part .ensures,
     )
-    (wordsOf-parts (put-counts .before .before .before .before .args .t1))
+    (wordsOf-parts (put-counts .before .before .before .before .before .before .before .args .t1))
 
 pub write-record-spec : {M : Type 1} → statement M
 write-record-spec =
     tie.close
     (tie.spec
+    (λ c. search needs)
     (λ c. search needs)
     (λ c. search needs)
     (λ c. search needs)
