@@ -105,8 +105,8 @@ module _ (kind : Kind) (setup : Setup) (recording : List â„¤) (start windows : â
     pub worked : WorkedList kind observedList
     pub holds : ListHolds kind observedList
 
--- Demand 3: the distance of 7 units, over weights and so of every group value; for every kind, both systems and both editions the claim about every list of
--- calls whose accepted rows are worked from samples; and so of every observation that is not refused.
+-- Demand 3: the distance of 7 units, over weights and so of every group value; for every kind, both systems and both editions the claim
+-- about every list of calls whose accepted rows are worked from samples; and so of every observation that is not refused.
 pub record Demand3Holds : Type 0 where
   pub weights : WeightsNear
   pub groups : GroupsNear
