@@ -1,6 +1,6 @@
 -- Tests as the code computes them: by their parts, and one that follows from another.
 use mathlib.Core.Path.{_≡_, refl, sym, _∙_}
-use mathlib.Core.Logic.{_⊎_, inl, inr}
+use mathlib.Core.Logic.{_⊎_, inl, inr, ⊎-map}
 use mathlib.Core.Bool.{Bool, true, false, true≢false, _&&_, _||_, and-true, and-assoc}
 use mathlib.Core.List.{List, [], _∷_}
 use Prim.Native.Nat.{ℕ, zero, suc, _≤_, _<_}
@@ -18,6 +18,14 @@ and-left false b e = e
 pub and-right : (a b : Bool) → (a && b) ≡ true → b ≡ true
 and-right true b e = e
 and-right false b e = absurd (true≢false (sym e))
+
+pub or-either : (a b : Bool) → (a || b) ≡ true → (a ≡ true) ⊎ (b ≡ true)
+or-either true b e = inl refl
+or-either false b e = inr e
+
+pub or-left : (a b : Bool) → (a || b) ≡ false → a ≡ false
+or-left true b e = absurd (true≢false e)
+or-left false b e = refl
 
 pub true-or-false : (b : Bool) → (b ≡ true) ⊎ (b ≡ false)
 true-or-false true = inl refl
@@ -50,11 +58,7 @@ leb-range least number most e =
 
 -- a number that is tested to be one of two
 pub eqb-either : (n a b : ℕ) → (eqb n a || eqb n b) ≡ true → (n ≡ a) ⊎ (n ≡ b)
-eqb-either n a b e = go (eqb n a) (eqb n b) refl refl e
-  where
-    go : (is-a is-b : Bool) → eqb n a ≡ is-a → eqb n b ≡ is-b → (is-a || is-b) ≡ true → (n ≡ a) ⊎ (n ≡ b)
-    go true is-b p q r = inl (eqb-true n a p)
-    go false is-b p q r = inr (eqb-true n b (q ∙ r))
+eqb-either n a b e = ⊎-map (eqb-true n a) (eqb-true n b) (or-either (eqb n a) (eqb n b) e)
 
 -- two tests that follow from each other are the same
 pub leb-same : (a b c d : ℕ) → (a ≤ b → c ≤ d) → (c ≤ d → a ≤ b) → leb a b ≡ leb c d

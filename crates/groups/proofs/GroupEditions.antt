@@ -1,6 +1,6 @@
 -- The editions beside each other (document 02, card 7): edition 2 has document 01's groups, and A1 differs from it in the harmonic group of order 1 alone, which is its component.
 use mathlib.Core.Path.{_≡_, refl}
-use mathlib.Core.Bool.{Bool, true, false, _&&_}
+use mathlib.Core.Bool.{false, _&&_, and-false}
 use mathlib.Core.List.{List}
 use Prim.Native.Nat.{ℕ}
 use lib.Dec.{eqb}
@@ -31,12 +31,7 @@ groupValue-edition2 kind n h lines = rw (groupedAs-own kind edition2 h refl)
 -- any order but the first: the lines of document 01's table, and so the groups of edition 2
 pub weightsOf-above :
     (kind : Kind) (n edition h : ℕ) → (h ≡ 1 → ⊥) → weightsOf kind (setupOf n edition) h ≡ weightsIn (spanOf kind n h)
-weightsOf-above kind n edition h other =
-    rw (groupedAs-own kind edition h (rw (ne-eqb h 1 other) (and-false (eqb edition editionA1))))
-  where
-    and-false : (b : Bool) → (b && false) ≡ false
-    and-false true = refl
-    and-false false = refl
+weightsOf-above kind n edition h other = rw (groupedAs-own kind edition h (rw (ne-eqb h 1 other, and-false)))
 
 pub groupValue-above :
     (kind : Kind) (n edition h : ℕ) (lines : List ℕ) →

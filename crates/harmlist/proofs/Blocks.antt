@@ -1,7 +1,7 @@
 -- The blocks that were read so far, one block more, how many more may come, and what the whole gives.
-use mathlib.Core.Bool.{Bool, true, false, cond, _||_, true≢false}
+use mathlib.Core.Bool.{Bool, true, false, cond}
 use mathlib.Core.List.{List, [], _∷_, _++_}
-use mathlib.Core.Logic.{_⊎_, inl, inr}
+use mathlib.Core.Logic.{inl, inr}
 use mathlib.Core.Path.{_≡_, refl, sym, ap, _∙_}
 use Prim.Native.Nat.{ℕ, _+_, _-_, _<_, _≤_}
 use native.Mathlib.Decide.{ℕ-discrete}
@@ -22,16 +22,6 @@ use Rattle.recordings.proofs.WindowAdded.{blockOf-added}
 use Rattle.harmlist_output.proofs.Follows.{follows-definition, readingAfter-append}
 use Rattle.harmlist.specs.declared.Input.{Input}
 use Rattle.harmlist.specs.Input.{BytesRead, LineRead, BlockRead, Ends, BlocksRead, TextRead}
-
--- ---- two tests
-
-pub one-holds : (a b : Bool) → (a || b) ≡ true → (a ≡ true) ⊎ (b ≡ true)
-one-holds true b e = inl refl
-one-holds false b e = inr e
-
-pub first-fails : (a b : Bool) → (a || b) ≡ false → a ≡ false
-first-fails true b e = absurd (true≢false e)
-first-fails false b e = refl
 
 -- ---- the bytes of one read
 

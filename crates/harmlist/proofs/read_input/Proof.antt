@@ -1,20 +1,21 @@
 -- `harmlist::read_input` meets its contract.
 use mathlib.Core.Logic.{inr}
 use borrow.Author.Needs.{needs}
-use Rattle.harmlist.proofs.Blocks.{one-holds, first-fails, line-ends, text-ends}
+use Rattle.algebra.proofs.Tests.{or-either, or-left}
+use Rattle.harmlist.proofs.Blocks.{line-ends, text-ends}
 use Rattle.harmlist.proofs.read_input.Statement.{statement}
 use Rattle.harmlist.proofs.read_input.Tie as tie
 
 returns : tie.Need-returns
 returns c =
     let line = c .before .before .read-line in
-    line-ends (line .result) (line .ensures) (inr (one-holds (line .result .short) (line .result .failed) (c .if1 .taken)))
+    line-ends (line .result) (line .ensures) (inr (or-either (line .result .short) (line .result .failed) (c .if1 .taken)))
 
 returns-2 : tie.Need-returns-2
 returns-2 c =
     let line = c .before .before .before .read-line in
     text-ends (line .result) (line .ensures) (c .read-blocks .result)
-    (first-fails (line .result .short) (line .result .failed) (c .before .if1 .left))
+    (or-left (line .result .short) (line .result .failed) (c .before .if1 .left))
     (c .read-blocks .ensures)
 
 pub read-input-spec : {M : Type 1} → statement M
