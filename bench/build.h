@@ -1,7 +1,8 @@
 /* The calls of one build of the core, as calls.c times them: included for the core and, with -DBEFORE, once
- * more for the build before a change. It is told by four macros which build it speaks of. SIDE(name) is a
+ * more for the build before a change. It is told by five macros which build it speaks of. SIDE(name) is a
  * name of this program, CALL(name) a call of the build, NUMBER(name) a constant of its header; EDITION is
- * edition 2 and a comma, or nothing for a build whose calls take no edition. */
+ * edition 2 and a comma, or nothing for a build whose calls take no edition; HAS_LATEST is 1 for a build whose
+ * records keep the latest rows, and 0 for one that has no three-second value. */
 
 static uint64_t SIDE(part)[PART];
 static uint32_t SIDE(values)[ORDERS], SIDE(verdict_number);
@@ -50,6 +51,13 @@ static void SIDE(verdict)(void)
     CALL(verdict)(SIDE(observed), NUMBER(RECORD_WORDS), 3, asked_letter, SCALE, &SIDE(verdict_number));
 }
 
+#if HAS_LATEST
+static void SIDE(three_second_value)(void)
+{
+    CALL(three_second_value)(SIDE(observed), NUMBER(RECORD_WORDS), 3, SIDE(numbers));
+}
+#endif
+
 static void SIDE(fill_listing)(void)
 {
     uint64_t written;
@@ -75,22 +83,25 @@ static void SIDE(observe_one_by_one)(void)
     }
 }
 
-/* Of a record the words from the count of windows on are compared, which every build has. */
 static const struct side SIDE(sides)[CALLS] = {
-    [LINE] = {SIDE(line), SIDE(part)},
-    [PART_OF_LINES] = {SIDE(lines), SIDE(part)},
-    [ROW] = {SIDE(row), SIDE(values)},
-    [DISTORTION] = {SIDE(distortion), SIDE(numbers)},
-    [FRESH_RECORD] = {SIDE(fresh_record), SIDE(record) + NUMBER(WINDOWS_PLACE)},
-    [ADD_ROW] = {SIDE(add_row), SIDE(record) + NUMBER(WINDOWS_PLACE)},
-    [OBSERVE] = {SIDE(observe), SIDE(observed) + NUMBER(WINDOWS_PLACE)},
-    [ONE_BY_ONE] = {SIDE(observe_one_by_one), SIDE(one_by_one) + NUMBER(WINDOWS_PLACE)},
-    [LIMIT] = {SIDE(limit), SIDE(numbers)},
-    [VERDICT] = {SIDE(verdict), &SIDE(verdict_number)},
-    [FILL_LISTING] = {SIDE(fill_listing), SIDE(text)},
+    [LINE] = {SIDE(line), SIDE(part), sizeof SIDE(part)[0]},
+    [PART_OF_LINES] = {SIDE(lines), SIDE(part), sizeof SIDE(part)},
+    [ROW] = {SIDE(row), SIDE(values), sizeof SIDE(values)},
+    [DISTORTION] = {SIDE(distortion), SIDE(numbers), sizeof SIDE(numbers)[0]},
+    [FRESH_RECORD] = {SIDE(fresh_record), FROM(SIDE(record), NUMBER(WINDOWS_PLACE))},
+    [ADD_ROW] = {SIDE(add_row), FROM(SIDE(record), NUMBER(WINDOWS_PLACE))},
+    [OBSERVE] = {SIDE(observe), FROM(SIDE(observed), NUMBER(WINDOWS_PLACE))},
+    [ONE_BY_ONE] = {SIDE(observe_one_by_one), FROM(SIDE(one_by_one), NUMBER(WINDOWS_PLACE))},
+    [LIMIT] = {SIDE(limit), SIDE(numbers), sizeof SIDE(numbers)},
+    [VERDICT] = {SIDE(verdict), &SIDE(verdict_number), sizeof SIDE(verdict_number)},
+#if HAS_LATEST
+    [THREE_SECOND_VALUE] = {SIDE(three_second_value), SIDE(numbers), sizeof SIDE(numbers)[0]},
+#endif
+    [FILL_LISTING] = {SIDE(fill_listing), SIDE(text), sizeof SIDE(text)},
 };
 
 #undef SIDE
 #undef CALL
 #undef NUMBER
 #undef EDITION
+#undef HAS_LATEST

@@ -21,15 +21,21 @@ static int32_t recording[WINDOWS * SAMPLES];
 static uint64_t lines[LINES];
 static volatile uint8_t asked_letter; /* of the class in which limits and verdicts are asked */
 
-/* What is timed, and of each side the function that makes the call, and what the call leaves. */
+/* What is timed, and of each side the function that makes the call, and what the call leaves. A build of
+ * before may have no such call, and no function then. */
 enum {
-    LINE, PART_OF_LINES, ROW, DISTORTION, FRESH_RECORD, ADD_ROW, OBSERVE, ONE_BY_ONE, LIMIT, VERDICT, FILL_LISTING,
-    CALLS
+    LINE, PART_OF_LINES, ROW, DISTORTION, FRESH_RECORD, ADD_ROW, OBSERVE, ONE_BY_ONE, LIMIT, VERDICT,
+    THREE_SECOND_VALUE, FILL_LISTING, CALLS
 };
 struct side {
     void (*call)(void);
     const void *left;
+    size_t size; /* bytes that are left */
 };
+
+/* Of a record the words from the count of windows on are compared, as many as both sides have: before them a
+ * build may have other words, and behind them fewer. */
+#define FROM(record, place) (record) + (place), sizeof(record) - (place) * sizeof(record)[0]
 
 /* ---- the core, and the build before a change */
 
@@ -37,6 +43,7 @@ struct side {
 #define CALL(name) kifsang_##name
 #define NUMBER(name) KIFSANG_##name
 #define EDITION KIFSANG_EDITION_2,
+#define HAS_LATEST 1
 #include "build.h"
 
 #ifdef BEFORE
@@ -49,6 +56,11 @@ struct side {
 #else
 #define EDITION
 #endif
+#ifdef BEFORE_KIFSANG_LATEST_PLACE
+#define HAS_LATEST 1
+#else
+#define HAS_LATEST 0
+#endif
 #include "build.h"
 #endif
 
@@ -58,7 +70,10 @@ enum {
     N = KIFSANG_WINDOWS_PLACE,
     SMOOTHED = KIFSANG_SMOOTHED_PLACE,
     SUM = KIFSANG_SUM_PLACE,
-    PEAK = KIFSANG_PEAK_PLACE
+    PEAK = KIFSANG_PEAK_PLACE,
+    LATEST = KIFSANG_LATEST_PLACE,
+    ROW_WORDS = ORDERS / 2, /* of one of the latest rows, two values in a word */
+    ROWS = KIFSANG_THREE_SECOND_WINDOWS
 };
 
 static uint64_t c_part[PART], c_numbers[2];
@@ -118,6 +133,9 @@ static int c_sound(const uint64_t *record)
             record[PEAK + i] > UINT32_MAX ||
             (record[N] == 0 && (record[SMOOTHED + i] | record[SUM + i] | record[PEAK + i])))
             return 0;
+    for (uint64_t i = ROW_WORDS * record[N]; i < ROW_WORDS * ROWS; i++)
+        if (record[LATEST + i] != 0)
+            return 0;
     return 1;
 }
 
@@ -135,6 +153,9 @@ static void c_add(uint64_t *record, const uint32_t *row)
         if (smoothed > record[PEAK + i])
             record[PEAK + i] = smoothed;
     }
+    uint64_t *latest = record + LATEST + ROW_WORDS * (record[N] % ROWS);
+    for (int i = 0; i < ROW_WORDS; i++)
+        latest[i] = row[2 * i] | (uint64_t)row[2 * i + 1] << 32;
     record[N]++;
 }
 
@@ -180,6 +201,24 @@ static uint32_t c_judge(const uint64_t *record, uint8_t letter)
     return over ? 3 : within ? 1 : 2;
 }
 
+/* A fifteenth of the sum has 64 bits, and its whole part the same root. */
+static uint32_t c_three_seconds(const uint64_t *record, uint32_t order, uint64_t *value)
+{
+    if (!c_sound(record))
+        return 7;
+    if (order < 1 || order > ORDERS)
+        return 6;
+    if (record[N] < ROWS)
+        return 20;
+    unsigned __int128 sum = 0;
+    for (int i = 0; i < ROWS; i++) {
+        uint32_t kept = (uint32_t)(record[LATEST + ROW_WORDS * i + (order - 1) / 2] >> (order - 1) % 2 * 32);
+        sum += (uint64_t)kept * kept;
+    }
+    *value = whole_root((uint64_t)(sum / ROWS));
+    return 0;
+}
+
 static void c_line(void) { c_lines_from(1); }
 static void c_lines(void) { c_lines_from(PART); }
 static void c_row(void) { c_group_row(lines, c_values); }
@@ -188,6 +227,7 @@ static void c_fresh_record(void) { c_begin(c_record); }
 static void c_add_row(void) { c_add(c_record, c_values); }
 static void c_limit(void) { c_find_limit(39, asked_letter, &c_numbers[0], &c_numbers[1]); }
 static void c_verdict(void) { c_verdict_number = c_judge(c_observed, asked_letter); }
+static void c_three_second_value(void) { c_three_seconds(c_observed, 3, c_numbers); }
 
 static void c_observe(void)
 {
@@ -215,17 +255,18 @@ static void c_fill_listing(void)
 }
 
 static const struct side c_sides[CALLS] = {
-    [LINE] = {c_line, c_part},
-    [PART_OF_LINES] = {c_lines, c_part},
-    [ROW] = {c_row, c_values},
-    [DISTORTION] = {c_distortion, c_numbers},
-    [FRESH_RECORD] = {c_fresh_record, c_record + N},
-    [ADD_ROW] = {c_add_row, c_record + N},
-    [OBSERVE] = {c_observe, c_observed + N},
-    [ONE_BY_ONE] = {c_observe, c_observed + N},
-    [LIMIT] = {c_limit, c_numbers},
-    [VERDICT] = {c_verdict, &c_verdict_number},
-    [FILL_LISTING] = {c_fill_listing, c_text},
+    [LINE] = {c_line, c_part, sizeof c_part[0]},
+    [PART_OF_LINES] = {c_lines, c_part, sizeof c_part},
+    [ROW] = {c_row, c_values, sizeof c_values},
+    [DISTORTION] = {c_distortion, c_numbers, sizeof c_numbers[0]},
+    [FRESH_RECORD] = {c_fresh_record, FROM(c_record, N)},
+    [ADD_ROW] = {c_add_row, FROM(c_record, N)},
+    [OBSERVE] = {c_observe, FROM(c_observed, N)},
+    [ONE_BY_ONE] = {c_observe, FROM(c_observed, N)},
+    [LIMIT] = {c_limit, c_numbers, sizeof c_numbers},
+    [VERDICT] = {c_verdict, &c_verdict_number, sizeof c_verdict_number},
+    [THREE_SECOND_VALUE] = {c_three_second_value, c_numbers, sizeof c_numbers[0]},
+    [FILL_LISTING] = {c_fill_listing, c_text, sizeof c_text},
 };
 
 /* ---- comparing and timing */
@@ -240,30 +281,33 @@ static const struct side *const sides[SIDES] = {
 };
 static double times[SIDES][BATCHES];
 
-/* Of a record, the count of windows and three times 40 words. */
-#define COMPARED_OF_RECORD ((1 + 3 * ORDERS) * sizeof(uint64_t))
-
 static const struct work {
     const char *name;
     int call;
-    size_t left; /* bytes that are compared */
-    int calls;   /* in a batch */
+    int calls; /* in a batch */
     uint8_t letter;
 } works[] = {
-    {"lines_from, one line", LINE, sizeof(uint64_t), 400, 0},
-    {"lines_from, 13 lines", PART_OF_LINES, sizeof c_part, 100, 0},
-    {"row", ROW, sizeof c_values, 400, 0},
-    {"distortion", DISTORTION, sizeof(uint64_t), 400, 0},
-    {"fresh_record", FRESH_RECORD, COMPARED_OF_RECORD, 400, 0},
-    {"add_row", ADD_ROW, COMPARED_OF_RECORD, 400, 0},
-    {"observe, 50 windows", OBSERVE, COMPARED_OF_RECORD, 1, 0},
-    {"one by one, 50 windows", ONE_BY_ONE, COMPARED_OF_RECORD, 1, 0},
-    {"limit, class A", LIMIT, sizeof c_numbers, 400, 'A'},
-    {"limit, class B", LIMIT, sizeof c_numbers, 400, 'B'},
-    {"verdict, class A", VERDICT, sizeof c_verdict_number, 400, 'A'},
-    {"verdict, class B", VERDICT, sizeof c_verdict_number, 400, 'B'},
-    {"fill_listing", FILL_LISTING, sizeof c_text, 400, 0},
+    {"lines_from, one line", LINE, 400, 0},
+    {"lines_from, 13 lines", PART_OF_LINES, 100, 0},
+    {"row", ROW, 400, 0},
+    {"distortion", DISTORTION, 400, 0},
+    {"fresh_record", FRESH_RECORD, 400, 0},
+    {"add_row", ADD_ROW, 400, 0},
+    {"observe, 50 windows", OBSERVE, 1, 0},
+    {"one by one, 50 windows", ONE_BY_ONE, 1, 0},
+    {"limit, class A", LIMIT, 400, 'A'},
+    {"limit, class B", LIMIT, 400, 'B'},
+    {"verdict, class A", VERDICT, 400, 'A'},
+    {"verdict, class B", VERDICT, 400, 'B'},
+    {"three_second_value", THREE_SECOND_VALUE, 400, 0},
+    {"fill_listing", FILL_LISTING, 400, 0},
 };
+
+/* A side's function for a call and what it leaves, or none. */
+static const struct side *side_of(int s, int call)
+{
+    return sides[s] != NULL && sides[s][call].call != NULL ? &sides[s][call] : NULL;
+}
 
 static void same(const char *name, const void *one, const void *other, size_t size)
 {
@@ -276,13 +320,16 @@ static void same(const char *name, const void *one, const void *other, size_t si
 /* Each side makes the call three times, so that rows are added to a record that holds some. */
 static void compare(const struct work *work)
 {
+    const struct side *plain = &c_sides[work->call];
     asked_letter = work->letter;
     for (int s = 0; s < SIDES; s++)
-        for (int i = 0; sides[s] != NULL && i < 3; i++)
+        for (int i = 0; side_of(s, work->call) != NULL && i < 3; i++)
             sides[s][work->call].call();
-    for (int s = 0; s < SIDES; s++)
-        if (sides[s] != NULL)
-            same(work->name, sides[s][work->call].left, c_sides[work->call].left, work->left);
+    for (int s = 0; s < SIDES; s++) {
+        const struct side *side = side_of(s, work->call);
+        if (side != NULL)
+            same(work->name, side->left, plain->left, side->size < plain->size ? side->size : plain->size);
+    }
 }
 
 static void compare_limits(void)
@@ -296,13 +343,35 @@ static void compare_limits(void)
         }
 }
 
+/* After each of some rows of any values all orders are asked, and two that are none. */
+static void compare_three_seconds(void)
+{
+    static uint64_t record[KIFSANG_RECORD_WORDS], plain_record[KIFSANG_RECORD_WORDS];
+    kifsang_fresh_record(SYSTEM, KIFSANG_EDITION_2, record, KIFSANG_RECORD_WORDS);
+    c_begin(plain_record);
+    for (int n = 0; n < WINDOWS; n++) {
+        for (uint32_t order = 0; order <= ORDERS + 1; order++) {
+            uint64_t core[2] = {0}, plain[2] = {0};
+            core[0] = kifsang_three_second_value(record, KIFSANG_RECORD_WORDS, order, &core[1]);
+            plain[0] = c_three_seconds(plain_record, order, &plain[1]);
+            same("three_second_value", core, plain, sizeof core);
+        }
+        uint32_t row[ORDERS];
+        for (int i = 0; i < ORDERS; i++)
+            row[i] = n < ROWS ? UINT32_MAX : (uint32_t)random_number();
+        kifsang_add_row(record, KIFSANG_RECORD_WORDS, SYSTEM, KIFSANG_EDITION_2, row, ORDERS);
+        c_add(plain_record, row);
+        same("add_row", record, plain_record, sizeof record);
+    }
+}
+
 /* Times batches of calls, each side in turn, and puts them in the order of size. A side may be missing. */
 static void fill_times(const struct work *work)
 {
     asked_letter = work->letter;
     for (int batch = 0; batch < BATCHES; batch++)
         for (int s = 0; s < SIDES; s++)
-            if (sides[s] != NULL)
+            if (side_of(s, work->call) != NULL)
                 times[s][batch] = time_of(sides[s][work->call].call, work->calls, batch);
     for (int s = 0; s < SIDES; s++)
         sort_times(times[s], BATCHES);
@@ -320,12 +389,13 @@ int main(void)
     for (size_t i = 0; i < count; i++)
         compare(&works[i]);
     compare_limits();
+    compare_three_seconds();
     puts("all results agree");
     for (size_t i = 0; i < count; i++) {
         fill_times(&works[i]);
         printf("%-22s core %9.3f us, C %9.3f us, ratio %5.2f", works[i].name, 1e6 * times[CORE][0],
                1e6 * times[PLAIN][0], times[CORE][0] / times[PLAIN][0]);
-        if (sides[OTHER_BUILD] != NULL)
+        if (side_of(OTHER_BUILD, works[i].call) != NULL)
             printf("; before %9.3f us, ratio of the minima %.3f, of the medians %.3f", 1e6 * times[OTHER_BUILD][0],
                    times[CORE][0] / times[OTHER_BUILD][0],
                    times[CORE][BATCHES / 2] / times[OTHER_BUILD][BATCHES / 2]);

@@ -12,6 +12,7 @@
 static unsigned char stack[STACK] __attribute__((aligned(4096)));
 static int32_t window[KIFSANG_WINDOW_LENGTH];
 static uint64_t lines[KIFSANG_LINE_COUNT], record[KIFSANG_RECORD_WORDS], number, other_number;
+static uint64_t record_of_15[KIFSANG_RECORD_WORDS]; /* windows, as a three-second value wants them */
 static uint32_t row[KIFSANG_ORDER_COUNT], verdict;
 static unsigned char text[KIFSANG_LISTING_ROOM];
 static int64_t signed_number;
@@ -38,6 +39,10 @@ static void observe(void)
 }
 static void limit(void) { kifsang_limit(39, KIFSANG_CLASS_B, &number, &other_number); }
 static void judge(void) { kifsang_verdict(record, KIFSANG_RECORD_WORDS, 3, KIFSANG_CLASS_B, 1000000, &verdict); }
+static void three_second_value(void)
+{
+    kifsang_three_second_value(record_of_15, KIFSANG_RECORD_WORDS, 3, &number);
+}
 static void read_column(void) { kifsang_read_column(text, KIFSANG_COLUMN_WIDTH, &signed_number); }
 static void write_column(void) { kifsang_write_column(text, KIFSANG_COLUMN_WIDTH, -7); }
 static void fill_listing(void)
@@ -81,14 +86,19 @@ int main(void)
         {"spectrum", spectrum},         {"lines_from", lines_from},     {"group_value", group_value},
         {"row", whole_row},             {"distortion", distortion},     {"fresh_record", fresh_record},
         {"add_row", add_row},           {"observe", observe},           {"limit", limit},
-        {"verdict", judge},             {"write_column", write_column}, {"read_column", read_column},
-        {"fill_listing", fill_listing},
+        {"verdict", judge},             {"three_second_value", three_second_value},
+        {"write_column", write_column}, {"read_column", read_column},   {"fill_listing", fill_listing},
     };
     for (int i = 0; i < KIFSANG_WINDOW_LENGTH; i++)
         window[i] = i % 97 * 1000 - 48000;
+    for (int i = 0; i < KIFSANG_ORDER_COUNT; i++)
+        row[i] = UINT32_MAX;
+    kifsang_fresh_record(10, KIFSANG_EDITION_2, record_of_15, KIFSANG_RECORD_WORDS);
+    for (int i = 0; i < KIFSANG_THREE_SECOND_WINDOWS; i++)
+        kifsang_add_row(record_of_15, KIFSANG_RECORD_WORDS, 10, KIFSANG_EDITION_2, row, KIFSANG_ORDER_COUNT);
     for (size_t i = 0; i < sizeof calls / sizeof calls[0]; i++) {
         taken(calls[i].call); /* the first run also binds symbols */
-        printf("%-14s at most %5zu bytes of stack\n", calls[i].name, taken(calls[i].call));
+        printf("%-18s at most %5zu bytes of stack\n", calls[i].name, taken(calls[i].call));
     }
     return 0;
 }

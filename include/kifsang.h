@@ -2,9 +2,9 @@
  * kifsang.h: the harmonic core of a power analyser, for C and C++ programs.
  *
  * From the samples of a mains current to its spectrum, its harmonic and interharmonic groups after
- * IEC 61000-4-7, edition 2 or its amendment A1, values smoothed over 1.5 s, and a verdict for each order
- * against class A or B of IEC 61000-3-2. Each function is proved to answer what its definition says, for
- * every input.
+ * IEC 61000-4-7, edition 2 or its amendment A1, values smoothed over 1.5 s, a verdict for each order
+ * against class A or B of IEC 61000-3-2, and the three-second values that network people read after
+ * IEC 61000-4-30. Each function is proved to answer what its definition says, for every input.
  * Kifsang is the name of the product; every symbol begins with it.
  *
  * From samples to verdicts
@@ -19,6 +19,10 @@
  *     kifsang_spectrum       a window of 2,048 samples    ->  512 lines
  *     kifsang_row            the lines of a window        ->  the 40 values of a kind, a row
  *     kifsang_add_row        a record and a row           ->  the record with one window more
+ *
+ *     The value of an order over the latest 15 windows, as a network reader wants it:
+ *
+ *     kifsang_three_second_value   a record and an order  ->  its three-second value
  *
  *     Any of a window's lines 0..1023 alone:
  *
@@ -39,8 +43,8 @@
  *     line[k] = A * A + B * B, at most 2^59                       halves are rounded up
  *
  *     A unit is 1/4096 of a sample count, r.m.s. Group values, smoothed values, their sums and their
- *     peaks are in units. A group value is the whole part of the square root of the sum of
- *     2 * weight * line over the lines of its kind, which are counted from system * order:
+ *     peaks, and three-second values are in units. A group value is the whole part of the square root of
+ *     the sum of 2 * weight * line over the lines of its kind, which are counted from system * order:
  *
  *         component                         0, weight 1
  *         harmonic group                    -system/2 and system/2, weight 1/2; between them, weight 1
@@ -68,12 +72,29 @@
  *
  * Records
  *
- *     A record is 123 words that the caller keeps; the calls read and write them at the places below.
+ *     A record is 423 words that the caller keeps; the calls read and write them at the places below.
  *     It is sound if its system is 10 or 12, its edition is 0 or 1, it holds at most 45,000 windows (2.5
- *     hours), no sum is above windows * (2^32 - 1), no smoothed value and no peak is above 2^32 - 1, and
- *     with no window all smoothed values, sums and peaks are 0 (isSound,
- *     crates/observation/specs/Soundness.antt). A record that the calls made stays sound; any other 123
- *     words may be handed over, and are judged by this alone.
+ *     hours), no sum is above windows * (2^32 - 1), no smoothed value and no peak is above 2^32 - 1, with
+ *     no window all smoothed values, sums and peaks are 0, and of the latest rows every value is 0 where
+ *     no row has come yet (isSound, crates/observation/specs/Soundness.antt). A record that the calls made
+ *     stays sound; any other 423 words may be handed over, and are judged by this alone.
+ *
+ *     The latest rows are those of the latest 15 windows, each as it was added: 600 values of 32 bits, two
+ *     in a word. A new row is put where the oldest stood, and nothing is moved. With the windows counted
+ *     from 0, the value of order h of window n is number v = 40 * (n mod 15) + h - 1 of the 600, and value
+ *     number v stands in word 123 + v / 2, in its lower 32 bits where v is even, in its upper 32 where v
+ *     is odd:
+ *
+ *         word    lower 32 bits          upper 32 bits
+ *         123     window 0, order 1      window 0, order 2
+ *         142     window 0, order 39     window 0, order 40
+ *         143     window 1, order 1      window 1, order 2
+ *         422     window 14, order 39    window 14, order 40
+ *         123     window 15, order 1     window 15, order 2, in the place of window 0
+ *
+ *     Any value may stand where a row has come. With fewer than 15 windows the words from 123 + 20 * windows
+ *     on are 0 (latestValues, crates/observation/specs/Latest.antt, and packed,
+ *     crates/record_words/specs/Halves.antt).
  *
  * Memory and threads
  *
@@ -122,15 +143,18 @@ extern "C" {
 #define KIFSANG_LISTING_ROOM 1640       /* bytes that a listing may need */
 #define KIFSANG_SMOOTHED_MARGIN 12      /* units either way of a limit in which a verdict is close */
 #define KIFSANG_PEAK_PERCENT 150        /* per cent of the limit, for the peak of an order */
+#define KIFSANG_THREE_SECOND_WINDOWS 15 /* windows of a three-second value: the rows that a record keeps */
 
-/* The places of a record's parts among its words. The last three are the first of 40 places each. */
+/* The places of a record's parts among its words. Those of the smoothed values, sums and peaks are the first
+ * of 40 places each, that of the latest rows is the first of 300 with two values in a word. */
 #define KIFSANG_SYSTEM_PLACE 0
 #define KIFSANG_EDITION_PLACE 1
 #define KIFSANG_WINDOWS_PLACE 2
 #define KIFSANG_SMOOTHED_PLACE 3
 #define KIFSANG_SUM_PLACE (KIFSANG_SMOOTHED_PLACE + KIFSANG_ORDER_COUNT)
 #define KIFSANG_PEAK_PLACE (KIFSANG_SUM_PLACE + KIFSANG_ORDER_COUNT)
-#define KIFSANG_RECORD_WORDS (KIFSANG_PEAK_PLACE + KIFSANG_ORDER_COUNT)
+#define KIFSANG_LATEST_PLACE (KIFSANG_PEAK_PLACE + KIFSANG_ORDER_COUNT)
+#define KIFSANG_RECORD_WORDS (KIFSANG_LATEST_PLACE + KIFSANG_THREE_SECOND_WINDOWS * KIFSANG_ORDER_COUNT / 2)
 
 /* Why a call was refused. */
 enum kifsang_refusal {
@@ -151,8 +175,9 @@ enum kifsang_refusal {
     KIFSANG_WRONG_BUFFER_LENGTH = 14, /* a text buffer of the wrong length */
     KIFSANG_UNKNOWN_CLASS = 15,       /* a class letter other than A or B */
     KIFSANG_UNKNOWN_EDITION = 19,     /* the edition is neither 0 nor 1 */
+    KIFSANG_TOO_FEW_WINDOWS = 20,     /* the record holds fewer than 15 windows */
     KIFSANG_UNKNOWN_KIND = 101,       /* a number that stands for no kind */
-    KIFSANG_WRONG_WORD_COUNT = 102    /* not 40 words for a row, or not 123 for a record */
+    KIFSANG_WRONG_WORD_COUNT = 102    /* not 40 words for a row, or not 423 for a record */
 };
 
 /* The editions of IEC 61000-4-7. */
@@ -185,8 +210,8 @@ enum kifsang_verdict_number {
     KIFSANG_OVER = 3
 };
 
-/* A record is 123 words. */
-typedef char kifsang_assert_record_of_123_words[KIFSANG_RECORD_WORDS == 123 ? 1 : -1];
+/* A record is 423 words. */
+typedef char kifsang_assert_record_of_423_words[KIFSANG_RECORD_WORDS == 423 ? 1 : -1];
 
 /*
  * Works out the spectral lines of a window.
@@ -290,9 +315,9 @@ uint32_t kifsang_distortion(const uint32_t *values, uint64_t value_count,
  *   system        in    10 or 12 cycles in a window
  *   edition       in    0 or 1, an enum kifsang_edition
  *   record        out   record_words words, at the places above
- *   record_words  in    123
+ *   record_words  in    423
  *
- * Refusals: 102 record_words is not 123; 1 system not 10 or 12; 19 edition not 0 or 1. A refused call
+ * Refusals: 102 record_words is not 423; 1 system not 10 or 12; 19 edition not 0 or 1. A refused call
  *   leaves the record as it was.
  * Proved error: none.
  * Definition: freshCallRefusal and freshCallExit, crates/exported_records/specs/RecordCalls.antt.
@@ -303,16 +328,17 @@ uint32_t kifsang_fresh_record(uint32_t system, uint32_t edition, uint64_t *recor
 /*
  * Adds the row of one window to a record. The first row becomes the smoothed values; later
  * smoothed = (1000 * new + 7012 * old) / 8012, to the nearest, halves up. The smoothed values are
- * added to the sums, and the peaks become the greater of themselves and the smoothed values.
+ * added to the sums, and the peaks become the greater of themselves and the smoothed values. The row
+ * itself becomes one of the latest rows, where the oldest of 15 leaves.
  *
  *   record        inout  record_words words; any words may be handed over
- *   record_words  in     123
+ *   record_words  in     423
  *   system        in     the row's: 10 or 12 cycles in a window
  *   edition       in     the row's: 0 or 1, an enum kifsang_edition
  *   values        in     value_count values, in units
  *   value_count   in     40
  *
- * Refusals: 102 record_words is not 123 or value_count is not 40; 7 the record is not sound; 1 system
+ * Refusals: 102 record_words is not 423 or value_count is not 40; 7 the record is not sound; 1 system
  *   not 10 or 12; 19 edition not 0 or 1; 8 another system or another edition than the record's; 9 the
  *   record holds 45,000 windows. A refused call leaves the record as it was.
  * Proved error: after any calls since a fresh record or an observation, where the rows that were added
@@ -336,13 +362,14 @@ uint32_t kifsang_add_row(uint64_t *record, uint64_t record_words, uint32_t syste
  *   edition           in    0 or 1, an enum kifsang_edition
  *   kind              in    0..4, an enum kifsang_kind
  *   record            out   record_words words, at the places above
- *   record_words      in    123
+ *   record_words      in    423
  *
- * Refusals: 101 no such kind; 102 record_words is not 123; 1 system not 10 or 12; 19 edition not 0 or 1;
+ * Refusals: 101 no such kind; 102 record_words is not 423; 1 system not 10 or 12; 19 edition not 0 or 1;
  *   then for each window in turn: 2 fewer than 2,048 samples from its start; 3 a sample of it outside
  *   -131071..131071; 9 45,000 windows are before it. A refused call leaves the record as it was.
- * Proved error: each smoothed value is at most 12 units from the exact one, and a verdict that is asked
- *   of the record keeps what kifsang_verdict says of it (exported-demand3).
+ * Proved error: each smoothed value is at most 12 units from the exact one, and a verdict or a
+ *   three-second value that is asked of the record keeps what kifsang_verdict or
+ *   kifsang_three_second_value says of it (exported-demand3).
  * Definition: observeAnswer, crates/observe/specs/Observe.antt, and observeCallRefusal and
  *   observeCallExit, crates/exported_windows/specs/ObserveCall.antt.
  */
@@ -377,13 +404,13 @@ uint32_t kifsang_limit(uint32_t order, uint8_t class_letter, uint64_t *numerator
  * close.
  *
  *   record            in    record_words words; any words may be handed over
- *   record_words      in    123
+ *   record_words      in    423
  *   order             in    2..40
  *   class_letter      in    'A' or 'B', an enum kifsang_class
  *   units_per_ampere  in    1..268435456, the units that one ampere r.m.s. gives
  *   verdict           out   one number, 1..3, an enum kifsang_verdict_number
  *
- * Refusals: 102 record_words is not 123; 7 the record is not sound; 10 no window yet; 6 order outside
+ * Refusals: 102 record_words is not 423; 7 the record is not sound; 10 no window yet; 6 order outside
  *   2..40; 15 class_letter not A or B; 11 units_per_ampere outside 1..2^28. A refused call leaves the
  *   verdict as it was.
  * Proved error: after calls as above, within and over hold for the exact average and peak too; close
@@ -392,6 +419,30 @@ uint32_t kifsang_limit(uint32_t order, uint8_t class_letter, uint64_t *numerator
  */
 uint32_t kifsang_verdict(const uint64_t *record, uint64_t record_words, uint32_t order,
                          uint8_t class_letter, uint32_t units_per_ampere, uint32_t *verdict);
+
+/*
+ * Works out the three-second value of an order, that over 150 cycles at 50 Hz and 180 at 60 Hz: the largest
+ * whole t with 15 * t^2 at most the sum of the squares of the order's values in the latest 15 rows. As a
+ * window arrives the oldest leaves, so it may be asked after every window from the 15th on, or after every
+ * 15th for values that share no window. Nothing is smoothed: the rows are taken as they were added.
+ *
+ *   record        in    record_words words; any words may be handed over
+ *   record_words  in    423
+ *   order         in    1..40
+ *   value         out   one number, in units, below 2^32
+ *
+ * Refusals: 102 record_words is not 423; 7 the record is not sound; 6 order outside 1..40; 20 fewer than
+ *   15 windows. A refused call leaves the value as it was.
+ * Proved error: none for the rows that were added; after any calls since a fresh record or an observation,
+ *   refused ones included, the value is that of the last 15 rows that were accepted. After calls as of
+ *   kifsang_add_row it is at most 8 units from the exact one, whose square is a fifteenth of the sum of the
+ *   squares of the 15 windows' exact groups: 15 * (t - 8)^2 <= that sum <= 15 * (t + 8)^2, with 0 for t - 8
+ *   where t is below 8 (exported-demand3).
+ * Definition: threeSecondOf, crates/three_seconds/specs/ThreeSecond.antt, and threeSecondCallRefusal and
+ *   threeSecondCallExit, crates/exported_records/specs/ThreeSecondCall.antt.
+ */
+uint32_t kifsang_three_second_value(const uint64_t *record, uint64_t record_words, uint32_t order,
+                                    uint64_t *value);
 
 /*
  * Reads a number column: 8 bytes, right-justified, blanks before, a minus directly before the

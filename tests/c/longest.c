@@ -1,6 +1,7 @@
 /* kifsang_observe at its longest: 45,000 windows are observed, and window 45,001 is refused with 2 where
  * it is short, with 3 where a sample of it is out of range, and else with 9. The record is compared with
- * that of kifsang_add_row for each window. tests/long runs this, which takes minutes.
+ * that of kifsang_add_row for each window, its latest rows and its three-second values with the rows
+ * themselves. tests/long runs this, which takes minutes.
  *
  * 64 windows are kept in a file and mapped one after the other as often as needed, so that 369 MB of
  * samples take half a megabyte. */
@@ -58,8 +59,28 @@ static int32_t *recording_of(const int32_t block[BLOCK_SAMPLES])
     return (int32_t *)all;
 }
 
+/* The latest rows of a record of 45,000 windows, a multiple of 15, are the last 15 in their order, two values in
+ * a word; and the three-second value of each order is the largest t with 15 * t^2 at most the sum of the squares.
+ * The values of the block are small enough for 64 bits. */
+static void three_seconds(uint32_t rows[BLOCK_WINDOWS][40], const uint64_t record[423])
+{
+    for (uint32_t order = 1; order <= 40; order++) {
+        uint64_t sum = 0, t = BEFORE;
+        for (uint64_t i = 0; i < 15; i++) {
+            uint64_t value = rows[(windows - 15 + i) % BLOCK_WINDOWS][order - 1], place = 40 * i + order - 1;
+            same("a value in the latest rows", record[123 + place / 2] >> (32 * (place % 2)) & UINT32_MAX, value);
+            same("a value below 2^29", value >> 29, 0);
+            sum += value * value;
+        }
+        same("three-second value", kifsang_three_second_value(record, 423, order, &t), 0);
+        same("a three-second value below 2^29", t >> 29, 0);
+        same("a three-second value that is not too large", 15 * t * t <= sum, 1);
+        same("a three-second value that is not too small", sum < 15 * (t + 1) * (t + 1), 1);
+    }
+}
+
 /* The record by the calls one by one, with the row of each window of the block worked out once. */
-static void chain(const int32_t block[BLOCK_SAMPLES], uint64_t record[123])
+static void chain(const int32_t block[BLOCK_SAMPLES], uint64_t record[423])
 {
     static uint32_t rows[BLOCK_WINDOWS][40];
     for (uint64_t i = 0; i < BLOCK_WINDOWS; i++) {
@@ -67,33 +88,34 @@ static void chain(const int32_t block[BLOCK_SAMPLES], uint64_t record[123])
         same("spectrum", kifsang_spectrum(block, BLOCK_SAMPLES, i * 2048, lines, 512), 0);
         same("row", kifsang_row(KIND, SYSTEM, EDITION, lines, 512, rows[i], 40), 0);
     }
-    same("fresh record", kifsang_fresh_record(SYSTEM, EDITION, record, 123), 0);
+    same("fresh record", kifsang_fresh_record(SYSTEM, EDITION, record, 423), 0);
     for (uint64_t i = 0; i < windows; i++)
-        same("add row", kifsang_add_row(record, 123, SYSTEM, EDITION, rows[i % BLOCK_WINDOWS], 40), 0);
-    same("add row to a full record", kifsang_add_row(record, 123, SYSTEM, EDITION, rows[0], 40), 9);
+        same("add row", kifsang_add_row(record, 423, SYSTEM, EDITION, rows[i % BLOCK_WINDOWS], 40), 0);
+    same("add row to a full record", kifsang_add_row(record, 423, SYSTEM, EDITION, rows[0], 40), 9);
+    three_seconds(rows, record);
 }
 
 static void refuse(const char *what, const int32_t *recording, uint64_t length, uint32_t number)
 {
-    uint64_t record[123];
-    for (int i = 0; i < 123; i++)
+    uint64_t record[423];
+    for (int i = 0; i < 423; i++)
         record[i] = BEFORE;
-    same(what, kifsang_observe(recording, length, 0, windows + 1, SYSTEM, EDITION, KIND, record, 123), number);
-    for (int i = 0; i < 123; i++)
+    same(what, kifsang_observe(recording, length, 0, windows + 1, SYSTEM, EDITION, KIND, record, 423), number);
+    for (int i = 0; i < 423; i++)
         same(what, record[i], BEFORE);
 }
 
 int main(void)
 {
     static int32_t block[BLOCK_SAMPLES];
-    uint64_t record[123], chained[123];
+    uint64_t record[423], chained[423];
     fill(block);
     int32_t *recording = recording_of(block);
-    same("45,000 windows", kifsang_observe(recording, full, 0, windows, SYSTEM, EDITION, KIND, record, 123), 0);
+    same("45,000 windows", kifsang_observe(recording, full, 0, windows, SYSTEM, EDITION, KIND, record, 423), 0);
     chain(block, chained);
     same("the edition", record[1], 1);
     same("the count of windows", record[2], 45000);
-    for (int i = 0; i < 123; i++)
+    for (int i = 0; i < 423; i++)
         same("the record of the calls one by one", record[i], chained[i]);
     refuse("window 45,001 short", recording, full + 2047, 2);
     refuse("window 45,001 whole", recording, full + 2048, 9);

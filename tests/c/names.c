@@ -1,13 +1,14 @@
 /* Every name of include/kifsang.h that stands for a number, with its figure; and the kinds, the editions,
- * the places, the classes, the margin and the peak's per cent by name, on calls whose answers documents 01
- * and 02 have in figures. With an argument it prints the names instead, a line for each, so that they can be compared
- * with those of the header. */
+ * the places, the windows of a three-second value, the classes, the margin and the peak's per cent by name,
+ * on calls whose answers documents 01 and 02 have in figures or give by them. With an argument it prints the
+ * names instead, a line for each, so that they can be compared with those of the header. */
 #include "kifsang.h"
 
 #include <inttypes.h>
 #include <stdio.h>
 #include <stdlib.h>
 
+#define BEFORE 0x5A5A5A5A /* what a word that a call may write holds before the call */
 #define COUNT_OF(array) (sizeof(array) / sizeof((array)[0]))
 
 #define NAME(name, figure) {#name, name, figure}
@@ -24,6 +25,7 @@ static const struct {
     NAME(KIFSANG_LARGEST_SAMPLE, 131071),
     NAME(KIFSANG_LARGEST_SCALE, 268435456),
     NAME(KIFSANG_MOST_WINDOWS, 45000),
+    NAME(KIFSANG_THREE_SECOND_WINDOWS, 15),
     NAME(KIFSANG_COLUMN_WIDTH, 8),
     NAME(KIFSANG_LISTING_ROOM, 1640),
     NAME(KIFSANG_SMOOTHED_MARGIN, 12),
@@ -35,7 +37,8 @@ static const struct {
     NAME(KIFSANG_SMOOTHED_PLACE, 3),
     NAME(KIFSANG_SUM_PLACE, 43),
     NAME(KIFSANG_PEAK_PLACE, 83),
-    NAME(KIFSANG_RECORD_WORDS, 123),
+    NAME(KIFSANG_LATEST_PLACE, 123),
+    NAME(KIFSANG_RECORD_WORDS, 423),
 
     NAME(KIFSANG_NO_REFUSAL, 0),
     NAME(KIFSANG_UNKNOWN_SYSTEM, 1),
@@ -54,6 +57,7 @@ static const struct {
     NAME(KIFSANG_WRONG_BUFFER_LENGTH, 14),
     NAME(KIFSANG_UNKNOWN_CLASS, 15),
     NAME(KIFSANG_UNKNOWN_EDITION, 19),
+    NAME(KIFSANG_TOO_FEW_WINDOWS, 20),
     NAME(KIFSANG_UNKNOWN_KIND, 101),
     NAME(KIFSANG_WRONG_WORD_COUNT, 102),
 
@@ -121,30 +125,48 @@ static void try_kinds(void)
 /* The rows of worked number 8, 8944 and then 0, for order 1, under an edition. */
 static void try_places(uint32_t edition)
 {
-    uint64_t record[123];
-    uint32_t values[40] = {8944};
-    same("the refusal of a fresh record", kifsang_fresh_record(10, edition, record, 123), 0);
-    same("the refusal of the first row", kifsang_add_row(record, 123, 10, edition, values, 40), 0);
+    uint64_t record[423];
+    uint32_t values[40] = {8944, 7};
+    same("the refusal of a fresh record", kifsang_fresh_record(10, edition, record, 423), 0);
+    same("the refusal of the first row", kifsang_add_row(record, 423, 10, edition, values, 40), 0);
     values[0] = 0;
-    same("the refusal of the second row", kifsang_add_row(record, 123, 10, edition, values, 40), 0);
+    same("the refusal of the second row", kifsang_add_row(record, 423, 10, edition, values, 40), 0);
     same("the system of a record", record[KIFSANG_SYSTEM_PLACE], 10);
     same("the edition of a record", record[KIFSANG_EDITION_PLACE], edition);
     same("the windows of a record", record[KIFSANG_WINDOWS_PLACE], 2);
     same("the smoothed value of a record", record[KIFSANG_SMOOTHED_PLACE], 7828);
     same("the sum of a record", record[KIFSANG_SUM_PLACE], 8944 + 7828);
     same("the peak of a record", record[KIFSANG_PEAK_PLACE], 8944);
+    same("the first row of a record", record[KIFSANG_LATEST_PLACE], 8944 + ((uint64_t)7 << 32));
+    same("the second row of a record", record[KIFSANG_LATEST_PLACE + KIFSANG_ORDER_COUNT / 2], (uint64_t)7 << 32);
+    same("a row that is to come", record[KIFSANG_LATEST_PLACE + KIFSANG_ORDER_COUNT], 0);
+}
+
+/* The three-second value after rows of the values 1, 2, .. up to so many, the same for every order. */
+static void try_three_seconds(uint32_t windows, uint32_t refusal, uint64_t expected)
+{
+    uint64_t record[423], value = BEFORE;
+    uint32_t values[40];
+    same("the refusal of a fresh record", kifsang_fresh_record(10, KIFSANG_EDITION_2, record, 423), 0);
+    for (uint32_t window = 1; window <= windows; window++) {
+        for (size_t i = 0; i < COUNT_OF(values); i++)
+            values[i] = window;
+        same("the refusal of a row", kifsang_add_row(record, 423, 10, KIFSANG_EDITION_2, values, 40), 0);
+    }
+    same("the refusal of a three-second value", kifsang_three_second_value(record, 423, 40, &value), refusal);
+    same("a three-second value", value, expected);
 }
 
 /* The verdict on order 3 with 1,000,000 units per ampere, of a record whose sum and peak are the value. */
 static uint32_t verdict_of(uint8_t class_letter, uint64_t windows, uint64_t value)
 {
-    uint64_t record[123];
+    uint64_t record[423];
     uint32_t verdict = 0;
-    same("the refusal of a fresh record", kifsang_fresh_record(10, KIFSANG_EDITION_2, record, 123), 0);
+    same("the refusal of a fresh record", kifsang_fresh_record(10, KIFSANG_EDITION_2, record, 423), 0);
     record[KIFSANG_WINDOWS_PLACE] = windows;
     record[KIFSANG_SUM_PLACE + 2] = value;
     record[KIFSANG_PEAK_PLACE + 2] = value;
-    same("the refusal of a verdict", kifsang_verdict(record, 123, 3, class_letter, 1000000, &verdict), 0);
+    same("the refusal of a verdict", kifsang_verdict(record, 423, 3, class_letter, 1000000, &verdict), 0);
     return verdict;
 }
 
@@ -199,6 +221,12 @@ int main(int argument_count, char **arguments)
     try_kinds();
     try_places(KIFSANG_EDITION_2);
     try_places(KIFSANG_EDITION_A1);
+    /* The squares of 1..15 have the sum 1240, those of 2..16 1495 and those of 3..17 1780; 15 * 9^2 is 1215,
+     * 15 * 10^2 is 1500 and 15 * 11^2 is 1815. */
+    try_three_seconds(KIFSANG_THREE_SECOND_WINDOWS - 1, KIFSANG_TOO_FEW_WINDOWS, BEFORE);
+    try_three_seconds(KIFSANG_THREE_SECOND_WINDOWS, KIFSANG_NO_REFUSAL, 9);
+    try_three_seconds(KIFSANG_THREE_SECOND_WINDOWS + 1, KIFSANG_NO_REFUSAL, 9);
+    try_three_seconds(KIFSANG_THREE_SECOND_WINDOWS + 2, KIFSANG_NO_REFUSAL, 10);
     try_bounds();
     try_limits();
     printf("%lu names of the header, all with their figures\n", (unsigned long)COUNT_OF(names));

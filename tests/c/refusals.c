@@ -25,7 +25,7 @@ struct arguments {
     uint64_t value, parts_per_thousand, numerator, denominator, written;
     uint32_t verdict;
     int32_t recording[6200];
-    uint64_t lines[520], record[130];
+    uint64_t lines[520], record[430];
     uint32_t values[50], group[50], subgroup[50], smoothed[50];
     uint8_t text[16], buffer[1700];
 };
@@ -47,8 +47,9 @@ struct fault {
     FAULT(101, uint32_t, kind, UINT32_MAX)
 #define RECORD_WORDS_FAULTS \
     FAULT(102, uint64_t, record_words, 0), \
-    FAULT(102, uint64_t, record_words, 122), \
-    FAULT(102, uint64_t, record_words, 124)
+    FAULT(102, uint64_t, record_words, 123), \
+    FAULT(102, uint64_t, record_words, 422), \
+    FAULT(102, uint64_t, record_words, 424)
 #define VALUE_COUNT_FAULTS \
     FAULT(102, uint64_t, value_count, 0), \
     FAULT(102, uint64_t, value_count, 39), \
@@ -60,6 +61,16 @@ struct fault {
     FAULT(19, uint32_t, edition, 2), \
     FAULT(19, uint32_t, edition, 65537), \
     FAULT(19, uint32_t, edition, UINT32_MAX)
+#define ORDER_FAULTS \
+    FAULT(6, uint32_t, order, 0), \
+    FAULT(6, uint32_t, order, 41), \
+    FAULT(6, uint32_t, order, UINT32_MAX)
+#define WHOLE_RECORD(number, what, words) \
+    {number, what, offsetof(struct arguments, record), sizeof words, words}
+/* A value in the row of window 15 where 14 windows have come, the last value of all where none has. */
+#define LATEST_FAULTS \
+    WHOLE_RECORD(7, "a value before window 15", early), \
+    WHOLE_RECORD(7, "a value before window 1", earliest)
 #define RECORD_SETUP_FAULTS \
     FAULT(7, uint64_t, record[0], 11), \
     FAULT(7, uint64_t, record[0], 4294967306), \
@@ -104,7 +115,11 @@ struct call {
     size_t fault_count;
 };
 
-static const uint64_t fresh[123] = {10, 1};
+static const uint64_t fresh[423] = {10, 1};
+/* 14 windows, the last value of their rows not 0; and values where no row has come yet. */
+static const uint64_t fourteen[423] = {10, 1, 14, [402] = 4294967296};
+static const uint64_t early[423] = {10, 1, 14, [403] = 1};
+static const uint64_t earliest[423] = {10, 1, 0, [422] = 4294967296};
 
 static uint32_t spectrum(struct arguments *a)
 {
@@ -141,8 +156,7 @@ static uint32_t group_value(struct arguments *a)
 static const struct fault group_value_faults[] = {
     KIND_FAULTS,
     SETUP_FAULTS,
-    FAULT(6, uint32_t, order, 0),
-    FAULT(6, uint32_t, order, 41),
+    ORDER_FAULTS,
     LINES_FAULTS,
 };
 
@@ -188,6 +202,7 @@ static const struct fault add_row_faults[] = {
     VALUE_COUNT_FAULTS,
     RECORD_SETUP_FAULTS,
     FAULT(7, uint64_t, record[2], 0),
+    FAULT(7, uint64_t, record[2], 14),
     FAULT(7, uint64_t, record[2], 45001),
     FAULT(7, uint64_t, record[42], 4294967296),
     FAULT(7, uint64_t, record[43], UINT64_MAX),
@@ -242,14 +257,33 @@ static uint32_t verdict(struct arguments *a)
 static const struct fault verdict_faults[] = {
     RECORD_WORDS_FAULTS,
     RECORD_SETUP_FAULTS,
+    LATEST_FAULTS,
     FAULT(7, uint64_t, record[2], 45001),
     FAULT(7, uint64_t, record[3], 4294967296),
     FAULT(7, uint64_t, record[43], UINT64_MAX),
     FAULT(7, uint64_t, record[122], 4294967296),
-    {10, "a fresh record", offsetof(struct arguments, record), sizeof fresh, fresh},
+    WHOLE_RECORD(10, "a fresh record", fresh),
     LIMIT_FAULTS,
     FAULT(11, uint32_t, units_per_ampere, 0),
     FAULT(11, uint32_t, units_per_ampere, 268435457),
+};
+
+static uint32_t three_second_value(struct arguments *a)
+{
+    return kifsang_three_second_value(a->record, a->record_words, a->order, &a->value);
+}
+
+static const struct fault three_second_value_faults[] = {
+    RECORD_WORDS_FAULTS,
+    RECORD_SETUP_FAULTS,
+    LATEST_FAULTS,
+    FAULT(7, uint64_t, record[2], 13),
+    FAULT(7, uint64_t, record[2], 45001),
+    FAULT(7, uint64_t, record[3], 4294967296),
+    FAULT(7, uint64_t, record[43], UINT64_MAX),
+    FAULT(7, uint64_t, record[122], 4294967296),
+    ORDER_FAULTS,
+    WHOLE_RECORD(20, "a record of 14 windows", fourteen),
 };
 
 static uint32_t read_column(struct arguments *a)
@@ -314,6 +348,7 @@ static const struct call calls[] = {
     CALL(observe),
     CALL(limit),
     CALL(verdict),
+    CALL(three_second_value),
     CALL(read_column),
     CALL(write_column),
     CALL(fill_listing),
@@ -348,7 +383,7 @@ static void fill(struct arguments *a, const struct call *call)
     a->first = 512;
     a->line_count = 512;
     a->value_count = 40;
-    a->record_words = 123;
+    a->record_words = 423;
     a->text_length = 8;
     a->group_count = a->subgroup_count = a->smoothed_count = 40;
     a->buffer_length = call->run == write_column ? 8 : 1640;
@@ -359,7 +394,7 @@ static void fill(struct arguments *a, const struct call *call)
     for (size_t i = 0; i < COUNT_OF(a->lines); i++)
         a->lines[i] = 576460752303423488 - i;
     for (size_t i = 0; i < COUNT_OF(a->record); i++)
-        a->record[i] = 4294967295 - i;
+        a->record[i] = i < 123 ? 4294967295 - i : UINT64_MAX - i;
     a->record[0] = 10;
     a->record[1] = 1;
     a->record[2] = 44999;
@@ -398,12 +433,12 @@ static void try_call(const struct call *call, uint32_t verdict_before)
  * ampere. */
 static uint32_t verdict_of(uint8_t class_letter, uint32_t value)
 {
-    uint64_t record[123];
+    uint64_t record[423];
     uint32_t values[40] = {0}, verdict = 0;
     values[2] = value;
     same("verdict", "a record", "of one window",
-         kifsang_fresh_record(10, 0, record, 123) + kifsang_add_row(record, 123, 10, 0, values, 40) +
-             kifsang_verdict(record, 123, 3, class_letter, 1000000, &verdict),
+         kifsang_fresh_record(10, 0, record, 423) + kifsang_add_row(record, 423, 10, 0, values, 40) +
+             kifsang_verdict(record, 423, 3, class_letter, 1000000, &verdict),
          0);
     return verdict;
 }

@@ -195,6 +195,7 @@ static void on_observe(void)
 
 static void on_record(void)
 {
+    same("count of a record's words", count, KIFSANG_RECORD_WORDS);
     if (record_is_ours)
         same_words("record", record, number, KIFSANG_RECORD_WORDS);
     record_is_ours = 0;
@@ -221,6 +222,17 @@ static void on_verdict(void)
     same("verdict", refusal, number[3]);
     same_answer("outcome", verdict, refusal, number[4]);
     same_words("the record after a verdict", record, expected_record, KIFSANG_RECORD_WORDS);
+}
+
+static void on_three_second_value(void)
+{
+    uint64_t value = BEFORE;
+    if (number[0] > UINT32_MAX)
+        return;
+    uint32_t refusal = kifsang_three_second_value(record, KIFSANG_RECORD_WORDS, (uint32_t)number[0], &value);
+    same("three-second value", refusal, number[1]);
+    same_answer("units of a three-second value", value, refusal, number[2]);
+    same_words("the record after a three-second value", record, expected_record, KIFSANG_RECORD_WORDS);
 }
 
 static void on_read_column(void)
@@ -279,6 +291,7 @@ static const struct {
     {"record", on_record},
     {"limit", on_limit},
     {"verdict", on_verdict},
+    {"three_second_value", on_three_second_value},
     {"read_column", on_read_column},
     {"write_column", on_write_column},
     {"listing_values", on_listing_values},

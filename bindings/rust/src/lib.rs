@@ -57,6 +57,8 @@ pub const LISTING_ROOM: usize = 1640;
 pub const SMOOTHED_MARGIN: u32 = 12;
 /// Per cent of the limit: what the peak of an order is judged against.
 pub const PEAK_PERCENT: u32 = 150;
+/// Windows of a three-second value: the rows that a record keeps.
+pub const THREE_SECOND_WINDOWS: usize = 15;
 
 /// The class letter of class A. A class letter is a byte, as a front panel or a file has it, and the core
 /// refuses any other with 15.
@@ -83,8 +85,12 @@ pub const SMOOTHED_PLACE: usize = 3;
 pub const SUM_PLACE: usize = SMOOTHED_PLACE + ORDER_COUNT;
 /// The first of the 40 places of their peaks.
 pub const PEAK_PLACE: usize = SUM_PLACE + ORDER_COUNT;
+/// The first of the 300 places of the latest rows, two values in a word: with the windows counted from 0, the
+/// value of order h of window n stands at place `LATEST_PLACE + 20 * (n % 15) + (h - 1) / 2`, in the lower 32
+/// bits where h is odd and in the upper 32 where it is even.
+pub const LATEST_PLACE: usize = PEAK_PLACE + ORDER_COUNT;
 /// Words of a record.
-pub const RECORD_WORDS: usize = PEAK_PLACE + ORDER_COUNT;
+pub const RECORD_WORDS: usize = LATEST_PLACE + THREE_SECOND_WINDOWS * ORDER_COUNT / 2;
 
 /// Why a call was refused.
 #[derive(Clone, Copy, Debug, PartialEq, Eq)]
@@ -127,8 +133,9 @@ refusals! {
     14 WRONG_BUFFER_LENGTH "a text buffer of the wrong length"
     15 UNKNOWN_CLASS "a class letter other than A or B"
     19 UNKNOWN_EDITION "the edition is neither 0 nor 1"
+    20 TOO_FEW_WINDOWS "the record holds fewer than 15 windows"
     101 UNKNOWN_KIND "a number that stands for no kind"
-    102 WRONG_WORD_COUNT "not 40 words for a row, or not 123 for a record"
+    102 WRONG_WORD_COUNT "not 40 words for a row, or not 423 for a record"
 }
 
 impl fmt::Display for Refusal {
@@ -253,6 +260,12 @@ mod raw {
             class_letter: u8,
             units_per_ampere: u32,
             verdict: *mut u32,
+        ) -> u32;
+        pub fn kifsang_three_second_value(
+            record: *const u64,
+            record_words: u64,
+            order: u32,
+            value: *mut u64,
         ) -> u32;
         pub fn kifsang_read_column(text: *const u8, text_length: u64, number: *mut i64) -> u32;
         pub fn kifsang_write_column(buffer: *mut u8, buffer_length: u64, number: i64) -> u32;
@@ -434,7 +447,7 @@ pub fn distortion(values: &[u32]) -> Result<u64, Refusal> {
 
 /// Begins an observation: a record of a system and an edition with no window, into [`RECORD_WORDS`] words.
 ///
-/// Refusals: 102 not 123 words; 1 system not 10 or 12; 19 edition not 0 or 1.
+/// Refusals: 102 not 423 words; 1 system not 10 or 12; 19 edition not 0 or 1.
 pub fn fresh_record(system: u32, edition: u32, record: &mut [u64]) -> Result<(), Refusal> {
     // SAFETY: the pointer comes with the length of its slice.
     let refusal =
@@ -443,9 +456,9 @@ pub fn fresh_record(system: u32, edition: u32, record: &mut [u64]) -> Result<(),
 }
 
 /// Adds the row of one window, 40 values with their system and edition, to a record; any words may be
-/// handed over as one.
+/// handed over as one. The row itself becomes one of the latest rows, where the oldest of 15 leaves.
 ///
-/// Refusals: 102 not 123 words or not 40 values; 7 the record is not sound; 1 system not 10 or 12; 19
+/// Refusals: 102 not 423 words or not 40 values; 7 the record is not sound; 1 system not 10 or 12; 19
 /// edition not 0 or 1; 8 another system or another edition than the record's; 9 the record holds 45,000
 /// windows.
 ///
@@ -477,12 +490,13 @@ pub fn add_row(
 /// [`spectrum`], [`row`] and [`add_row`] would leave; no window leaves a fresh record. Only the windows
 /// are looked at.
 ///
-/// Refusals: 102 not 123 words; 1 system not 10 or 12; 19 edition not 0 or 1; then for each window in
+/// Refusals: 102 not 423 words; 1 system not 10 or 12; 19 edition not 0 or 1; then for each window in
 /// turn: 2 fewer than 2,048 samples from its start; 3 a sample of it outside -131071..131071; 9 45,000
 /// windows are before it.
 ///
-/// Proved error: each smoothed value is at most 12 units from the exact one, and a verdict that is
-/// asked of the record keeps what [`verdict`] says of it.
+/// Proved error: each smoothed value is at most 12 units from the exact one, and a verdict or a
+/// three-second value that is asked of the record keeps what [`verdict`] or [`three_second_value`] says of
+/// it.
 pub fn observe(
     recording: &[i32],
     start: usize,
@@ -546,7 +560,7 @@ pub fn limit(order: u32, class_letter: u8) -> Result<Limit, Refusal> {
 /// smoothed values against the limit, their peak against 150 % of it, with so many units in an ampere
 /// r.m.s., 1..2^28.
 ///
-/// Refusals: 102 not 123 words; 7 the record is not sound; 10 no window yet; 6 order outside 2..40; 15
+/// Refusals: 102 not 423 words; 7 the record is not sound; 10 no window yet; 6 order outside 2..40; 15
 /// class letter not A or B; 11 units per ampere outside 1..2^28.
 ///
 /// Proved error: after a list of calls as of [`add_row`], within and over hold for the exact average
@@ -576,6 +590,46 @@ pub fn verdict(
         3 => Ok(Verdict::Over),
         other => unreachable!("the core has three verdicts, and {other} is none of them"),
     }
+}
+
+/// Works out the three-second value of an order, 1..40, below 2^32: the largest whole t with 15 * t^2 at most
+/// the sum of the squares of the order's values in the latest 15 rows. As a window arrives the oldest leaves.
+///
+/// Refusals: 102 not 423 words; 7 the record is not sound; 6 order outside 1..40; 20 fewer than 15 windows.
+///
+/// Proved error: none for the rows that were added; after any list of calls from a fresh record, refused
+/// ones included, it is the value of the last 15 accepted rows. After a list of calls as of [`add_row`] it is
+/// at most 8 units from the exact one, whose square is a fifteenth of the sum of the squares of the 15
+/// windows' exact groups.
+///
+/// ```
+/// use kifsang::{add_row, three_second_value, Refusal};
+/// use kifsang::{EDITION_2, ORDER_COUNT, RECORD_WORDS, THREE_SECOND_WINDOWS};
+///
+/// let mut record = [0; RECORD_WORDS];
+/// kifsang::fresh_record(10, EDITION_2, &mut record)?;
+/// add_row(&mut record, 10, EDITION_2, &[2000; ORDER_COUNT])?;
+/// for _ in 2..THREE_SECOND_WINDOWS {
+///     add_row(&mut record, 10, EDITION_2, &[1000; ORDER_COUNT])?;
+/// }
+/// assert_eq!(three_second_value(&record, 3), Err(Refusal::TOO_FEW_WINDOWS));
+///
+/// // With the fifteenth window the squares have the sum 18000000, a fifteenth of it is 1200000.
+/// add_row(&mut record, 10, EDITION_2, &[1000; ORDER_COUNT])?;
+/// assert_eq!(three_second_value(&record, 3)?, 1095);
+///
+/// // With the next one the first leaves.
+/// add_row(&mut record, 10, EDITION_2, &[1000; ORDER_COUNT])?;
+/// assert_eq!(three_second_value(&record, 3)?, 1000);
+/// # Ok::<(), Refusal>(())
+/// ```
+pub fn three_second_value(record: &[u64], order: u32) -> Result<u64, Refusal> {
+    let mut value = 0;
+    // SAFETY: the pointer comes with the length of its slice, the other points to one number.
+    let refusal = unsafe {
+        raw::kifsang_three_second_value(record.as_ptr(), length(record), order, &mut value)
+    };
+    answered(refusal, value)
 }
 
 /// Reads a number column: 8 bytes, right-justified, blanks before, a minus directly before the

@@ -8,11 +8,12 @@ use Prim.Native.Nat.{ℕ, _+_, _*_, _≤_}
 use native.Mathlib.Omega.{arith}
 use lib.Dec.{eqb, lit≤}
 use Rattle.algebra.specs.Fraction.{Fraction, whole, _+ᶠ_, Side, lower, upper, Near}
+use Rattle.algebra.specs.Weighted.{Everywhere}
 use Rattle.algebra.proofs.Fraction.{near-weaken, near-mix, near-whole-add, near-whole-maximum}
 use Rattle.rows.specs.declared.Row.{Row}
 use Rattle.observation.specs.Book.{Book, emptyBook, smoothedNext, bookStep}
 use Rattle.observation.specs.Smoothing.{newWeight, oldWeight, smoothedValue, reported, smoothedMargin}
-use Rattle.observation.specs.BookCalls.{EachAccepted, Fed, bookCall, bookAfter, ownValues}
+use Rattle.observation.specs.BookCalls.{acceptedCalls, EachAccepted, Fed, bookCall, bookAfter, ownValues}
 use Rattle.accuracy.specs.Distance.{groupMargin}
 use Rattle.accuracy.specs.ExactBook.{exact}
 use Rattle.accuracy.specs.CallList.{CallList, accepted, reportedFrom, ExactBook, state}
@@ -101,16 +102,20 @@ module _ (side : Side) (margin kept : ℕ) (keeps : MarginKept margin kept) wher
         BookNear side kept book exactBook →
         NearCalls (book .count) (call ∷ calls) →
         BookNear side kept (ownCall book call) (exactCall exactBook call) × NearCalls (ownCall book call .count) calls
-    unfolding bookCall EachAccepted bookStep
+    unfolding bookCall acceptedCalls bookStep
     call-near call calls book exactBook before near =
         rw (ap (λ count. taken count (call .row)) (before .same-count)) (go (taken (book .count) (call .row)) near)
       where
+        acceptedFrom : ℕ → List (Fed exact) → List (Fed exact)
+        acceptedFrom = acceptedCalls (λ call. call .row) taken
+
         next : Book reported
         next = bookStep reported book (read (call .row))
 
         go :
             (accepts : Bool) →
-            cond accepts (NearFed side margin read call × NearCalls (book .count + 1) calls) (NearCalls (book .count) calls) →
+            Everywhere (NearFed side margin read)
+            (cond accepts (call ∷ acceptedFrom (book .count + 1) calls) (acceptedFrom (book .count) calls)) →
             BookNear side kept (cond accepts next book) (cond accepts (bookStep exact exactBook (call .value)) exactBook) ×
             NearCalls (cond accepts next book .count) calls
         go true near = (step-near book exactBook _ _ (near .0) before, near .1)

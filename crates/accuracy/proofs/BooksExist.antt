@@ -1,11 +1,12 @@
--- Every list of calls whose accepted rows are worked from samples has an l book and a u book of every order: what demand 3 says of all of them is never empty.
--- They are fed the reported value less 7 (not below 0), and plus 7.
-use mathlib.Core.Path.{_≡_, _∙_}
+-- Every list of calls whose accepted rows are worked from samples has an l book and a u book of every order, and windows of its accepted rows: what demand 3 says of all of them is never empty.
+-- The books are fed the reported value less 7 (not below 0), and plus 7.
+use mathlib.Core.Path.{_≡_, refl, ap, _∙_}
 use mathlib.Core.Bool.{true}
-use mathlib.Core.List.{List, map, map-map, map-id}
+use mathlib.Core.List.{List, [], _∷_, map, map-map, map-id}
 use Prim.Native.Nat.{ℕ, _+_, _-_, _<_, _≤_}
 use lib.IntN.{ℤ}
 use Rattle.algebra.specs.Fraction.{whole, Side, lower, upper, RootBound}
+use Rattle.algebra.specs.Weighted.{Everywhere}
 use Rattle.rows.specs.declared.Row.{Row}
 use Rattle.rows.specs.declared.Setup.{Setup}
 use Rattle.rows.specs.Orders.{orderCount}
@@ -14,9 +15,9 @@ use Rattle.groups.specs.Exact.{exactGroup}
 use Rattle.observation.specs.BookCalls.{Fed, valueAt}
 use Rattle.accuracy.specs.Distance.{groupMargin, ValueNear}
 use Rattle.accuracy.specs.ExactBook.{exact}
-use Rattle.accuracy.specs.CallList.{CallList, accepted, ExactBook}
-use Rattle.accuracy.specs.Claim.{Worked, WorkedList, Feeds}
-use Rattle.accuracy.proofs.AcceptedCalls.{each-accepted-map}
+use Rattle.accuracy.specs.CallList.{CallList, accepted, acceptedRows, ExactBook}
+use Rattle.accuracy.specs.Claim.{Worked, WorkedList, Sampled, SampledRows, Feeds}
+use Rattle.accuracy.proofs.AcceptedCalls.{accepted-setup, each-accepted-map}
 use Rattle.accuracy.proofs.WorkedRows.{worked-near}
 
 -- the reported value less the margin, and plus it
@@ -45,7 +46,7 @@ module _ (side : Side) (order : ℕ) where
         Feeds side kind order (callAt row)
     unfolding Feeds callAt
     feeds count row taken (window, worked) =
-        (window, worked, bound-holds side kind _ order _ _ (worked-near kind row window worked list count taken order positive le))
+        (window, worked, bound-holds side kind _ order _ _ (worked-near kind row window worked (accepted-setup list count row taken) order positive le))
 
     pub book-exists : WorkedList kind list → ExactBook list (Feeds side kind order)
     unfolding WorkedList callAt
@@ -55,3 +56,32 @@ module _ (side : Side) (order : ℕ) where
           same-rows = map-map (λ call. call .row) callAt (list .rows) ∙ map-id (list .rows);
           fed = each-accepted-map callAt (λ call. call .row) _ (Feeds side kind order) (accepted list) feeds 0 (list .rows) worked;
         }
+
+-- ---- the windows of the accepted rows
+
+module _ (kind : Kind) where
+  abbrev FromSamples : Row → Type 0
+  FromSamples row = (window : List ℤ) × Worked kind row window
+
+  sampledOf : (rows : List Row) → Everywhere FromSamples rows → List Sampled
+  sampledOf [] from = []
+  sampledOf (row ∷ rows) from = record { row = row; window = from .0 .0 } ∷ sampledOf rows (from .1)
+
+  sampledOf-rows : (rows : List Row) (from : Everywhere FromSamples rows) → map (λ s. s .row) (sampledOf rows from) ≡ rows
+  unfolding sampledOf
+  sampledOf-rows [] from = refl
+  sampledOf-rows (row ∷ rows) from = ap (λ (rest : List Row). row ∷ rest) (sampledOf-rows rows (from .1))
+
+  sampledOf-worked : (rows : List Row) (from : Everywhere FromSamples rows) → Everywhere (λ s. Worked kind (s .row) (s .window)) (sampledOf rows from)
+  unfolding sampledOf
+  sampledOf-worked [] from = tt
+  sampledOf-worked (row ∷ rows) from = (from .0 .1, sampledOf-worked rows (from .1))
+
+  pub samples-exist : (list : CallList) → WorkedList kind list → SampledRows kind list
+  unfolding WorkedList
+  samples-exist list worked =
+      record {
+        sampled = sampledOf (acceptedRows list) worked;
+        same-rows = sampledOf-rows (acceptedRows list) worked;
+        worked = sampledOf-worked (acceptedRows list) worked;
+      }

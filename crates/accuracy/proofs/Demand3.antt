@@ -15,6 +15,8 @@ use Rattle.accuracy.specs.Claim.{WorkedList, reportedBook, ListHolds, De
 use Rattle.accuracy.proofs.GroupDistance.{weights-near, groups-near}
 use Rattle.accuracy.proofs.WorkedRows.{worked-list-fits, order-book-near}
 use Rattle.accuracy.proofs.Verdicts.{verdict-keeps, given-verdict}
+use Rattle.accuracy.proofs.LatestRows.{latest-holds}
+use Rattle.accuracy.proofs.ThreeSeconds.{three-second-near}
 use Rattle.accuracy.proofs.ObservedRows.{observed-setup, observed-record, observed-windows, observed-worked}
 
 module _ (kind : Kind) (list : CallList) (known : isSetup (list .setup) ≡ true) (worked : WorkedList kind list) where
@@ -38,6 +40,8 @@ module _ (kind : Kind) (list : CallList) (known : isSetup (list .setup) ≡ true
             omega (arith, order-book-near _ kind list order positive le book .smoothed-near .within);
         smoothed-high = λ order positive le book.
             omega (arith, order-book-near _ kind list order positive le book .smoothed-near .within);
+        latest = latest-holds list known (worked-list-fits kind list worked);
+        three-second-near = three-second-near kind list known worked;
         verdicts = λ q asked.
             let call = accepted (after list) q asked in
             let positive : 0 < q .order = omega arith in
@@ -52,6 +56,7 @@ demand3 =
     record {
       weights = weights-near;
       groups = groups-near;
+      latest = latest-holds;
       lists = list-holds;
       observed = λ kind setup recording start windows accepted.
           let worked = observed-worked kind setup recording start windows accepted in

@@ -5,7 +5,11 @@ pub mod Books
 pub mod WorkedRows
 pub mod Verdicts
 pub mod ObservedRows
+pub mod LatestRows
+pub mod ThreeSecondDistance
+pub mod ThreeSeconds
 pub mod Demand3
 pub mod BooksExist
 pub mod VerdictsGiven
 pub mod WorkedExample
+pub mod WorkedThreeSeconds

@@ -30,7 +30,7 @@ use Rattle.observation.specs.declared.Observation.{Observation}
 use Rattle.observation.specs.Book.{Book, emptyBook, smoothedNext, bookStep}
 use Rattle.observation.specs.Smoothing.{smoothedValue, reported}
 use Rattle.observation.specs.Calls.{rowChecks, bookAt}
-use Rattle.observation.specs.BookCalls.{accepts, EachAccepted, bookCall, bookAfter, ownValues}
+use Rattle.observation.specs.BookCalls.{accepts, acceptedCalls, bookCall, bookAfter, ownValues}
 use Rattle.fractions.specs.Parts.{parts, raised, atMost}
 use Rattle.limits.specs.declared.Class.{Class}
 use Rattle.limits.specs.declared.Class.the-variants.{A, B}
@@ -56,7 +56,7 @@ unfoldable pub workedRow : Kind → ℕ → List ℤ → Row
 workedRow kind edition window =
     record { setup = setupOf 10 edition; values = groupValues kind (setupOf 10 edition) (linesOf window) }
 
-worked-row : (kind : Kind) (edition : ℕ) (window : List ℤ) → InRange window → Worked kind (workedRow kind edition window) window
+pub worked-row : (kind : Kind) (edition : ℕ) (window : List ℤ) → InRange window → Worked kind (workedRow kind edition window) window
 unfolding workedRow
 worked-row kind edition window in-range = record { in-range = in-range; values = refl }
 
@@ -75,7 +75,7 @@ module _ (kind : Kind) (window next : List ℤ) where
 
   module _ (in-range : InRange window) (next-in-range : InRange next) where
     pub example-worked : (edition : ℕ) → isEdition edition ≡ true → WorkedList kind (exampleList edition)
-    unfolding WorkedList EachAccepted accepts rowChecks sameSetup isSystem isEdition exampleList workedRow otherRows
+    unfolding WorkedList acceptedCalls accepts rowChecks sameSetup isSystem isEdition exampleList workedRow otherRows
     example-worked =
         each-edition (λ edition. WorkedList kind (exampleList edition))
         ((window, worked-row kind 0 window in-range), ((next, worked-row kind 0 next next-in-range), tt))
@@ -102,7 +102,7 @@ module _ (kind : Kind) (window next : List ℤ) where
 
 -- ---- the pulse
 
-pulse-window : InRange pulse
+pub pulse-window : InRange pulse
 unfolding pulse
 pulse-window = record { whole-window = refl; samples = pulse-in-range }
 
@@ -111,7 +111,7 @@ unfolding linesOf
 pulse-lines = Pulse.pulse-lines 0 lineCount
 
 -- the harmonic groups of the orders 1 and 3; under A1 the first is its component
-pulse-values :
+pub pulse-values :
     (groupAnswer HarmonicGroup (setupOf 10 0) 3 (replicate lineCount 4000000) .value ≡ 8944)
     × (groupAnswer HarmonicGroup (setupOf 10 1) 3 (replicate lineCount 4000000) .value ≡ 8944)
     × (groupAnswer HarmonicGroup (setupOf 10 0) 1 (replicate lineCount 4000000) .value ≡ 8944)
@@ -119,7 +119,7 @@ pulse-values :
 unfolding groupAnswer groupRefusal isSystem isEdition isOrder groupValue valueOver rootOf largest spanOf groupedAs weightsIn weightedSum sumOver tabulate anyOf
 pulse-values = (refl, refl, refl, refl)
 
-pulse-group :
+pub pulse-group :
     (edition order value : ℕ) → groupAnswer HarmonicGroup (setupOf 10 edition) order (replicate lineCount 4000000) .value ≡ value →
     valueOf HarmonicGroup (setupOf 10 edition) order pulse ≡ value
 pulse-group edition order value =

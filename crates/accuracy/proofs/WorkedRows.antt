@@ -11,6 +11,7 @@ use Rattle.algebra.proofs.Fraction.{near-root}
 use Rattle.algebra.proofs.Lists.{getD-tabulate}
 use Rattle.rows.specs.declared.Row.{Row}
 use Rattle.rows.specs.declared.Setup.{Setup}
+use Rattle.rows.specs.Setups.{isSetup}
 use Rattle.rows.specs.Orders.{orderCount}
 use Rattle.rows.specs.Rows.{ValuesFit}
 use Rattle.groups.specs.declared.Kind.{Kind}
@@ -27,25 +28,23 @@ use Rattle.accuracy.proofs.AcceptedCalls.{accepted-setup, each-accepted
 use Rattle.accuracy.proofs.Books.{BookNear, margins-kept, exact-book-near}
 
 module _ (kind : Kind) (row : Row) (window : List ℤ) (worked : Worked kind row window) where
-  worked-fits : ValuesFit row
+  pub worked-fits : ValuesFit row
   unfolding ValuesFit
   worked-fits i = rw (worked .values) (groupValues-le kind (row .setup) _ i)
 
   -- the value that the row holds of an order
-  worked-value : EveryOrder (λ order. valueAt (order - 1) row ≡ valueOf kind (row .setup) order window)
+  pub worked-value : EveryOrder (λ order. valueAt (order - 1) row ≡ valueOf kind (row .setup) order window)
   unfolding groupValues
   worked-value order positive le =
       rw (worked .values)
       (getD-tabulate orderCount _ (order - 1) 0 (omega arith) ∙ ap (λ h. valueOf kind (row .setup) h window) (omega arith))
 
-  -- it is near the exact group, where a book accepts the row
+  -- it is near the exact group, under a known setup
   pub worked-near :
-      (list : CallList) (count : ℕ) →
-      accepted list count row ≡ true →
+      isSetup (row .setup) ≡ true →
       EveryOrder (λ order. ValueNear kind (row .setup) order window (valueAt (order - 1) row))
   unfolding GroupsNear
-  worked-near list count taken order positive le =
-      let known = accepted-setup list count row taken in
+  worked-near known order positive le =
       let near = groups-near kind (row .setup) window known (worked .in-range) order positive le in
       rw (worked-value order positive le) (near .value-near)
 
@@ -75,5 +74,6 @@ unfolding Feeds
 order-book-near side kind list order positive le =
     exact-book-near side groupMargin smoothedMargin (margins-kept .0) list (valueAt (order - 1)) (Feeds side kind order)
     (λ count call taken fed.
-    let near = worked-near kind (call .row) (fed .0) (fed .1) list count taken order positive le in
+    let known = accepted-setup list count (call .row) taken in
+    let near = worked-near kind (call .row) (fed .0) (fed .1) known order positive le in
     near-root side _ groupMargin _ _ (square-within side kind _ order _ _ near) (fed .2))

@@ -10,7 +10,7 @@ use Rattle.observation.specs.Book.{Book, emptyBook}
 use Rattle.observation.specs.Smoothing.{reported}
 use Rattle.observation.specs.Calls.{freshAnswer}
 use Rattle.observation.specs.RecordAfter.{recordAfter}
-use Rattle.observation.specs.BookCalls.{accepts, EachAccepted, Fed, bookAfter, ownValues}
+use Rattle.observation.specs.BookCalls.{accepts, acceptedCalls, EachAccepted, Fed, bookAfter, ownValues}
 use Rattle.accuracy.specs.ExactBook.{exact}
 
 -- "any list of add row calls, refused ones included"
@@ -28,6 +28,10 @@ module _ (list : CallList) where
   -- the rows that a book of the list accepts at a count: "read with the book's system and count", and its edition (document 02, card 7)
   abbrev pub accepted : ℕ → Row → Bool
   accepted = accepts (list .setup)
+
+  -- these rows of the list, in turn
+  abbrev pub acceptedRows : List Row
+  acceptedRows = acceptedCalls (λ row. row) accepted 0 (list .rows)
 
   -- a reported book, by what it reads of a row: "fed the row's own value and rounding"
   unfoldable pub reportedFrom : (Row → ℕ) → Book reported

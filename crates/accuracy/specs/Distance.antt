@@ -31,10 +31,10 @@ pub record InRange (window : List ℤ) : Type 0 where
   pub whole-window : length window ≡ windowLength
   pub samples : anyOf outOfRange window ≡ false
 
--- a value R against an exact square G: "R less 7 (not below 0), squared, is at most G, and G is at most R plus 7, squared"
-pub record WithinMargin (value : ℕ) (exact : Fraction) : Type 0 where
-  pub not-far-below : square (whole (value - groupMargin)) ≤ᶠ exact
-  pub not-far-above : exact ≤ᶠ square (whole (value + groupMargin))
+-- a value R against an exact square G, as with the 7 units of a group: "R less 7 (not below 0), squared, is at most G, and G is at most R plus 7, squared"
+pub record WithinMargin (margin value : ℕ) (exact : Fraction) : Type 0 where
+  pub not-far-below : square (whole (value - margin)) ≤ᶠ exact
+  pub not-far-above : exact ≤ᶠ square (whole (value + margin))
 
 -- "one fact over weights" (document 02, card 7): for every window in range, of any lines, in the spectrum or past it, whose weights add up to at most 12
 unfoldable pub WeightsNear : Type 0
@@ -42,7 +42,7 @@ WeightsNear =
     (xs : List Weighted) (window : List ℤ) →
     totalTwiceWeight xs ≤ largestTotal →
     InRange window →
-    WithinMargin (valueOver xs (lineOf window)) (exactOver xs window)
+    WithinMargin groupMargin (valueOver xs (lineOf window)) (exactOver xs window)
 
 -- the group value of an order for the lines of a window
 abbrev pub valueOf : Kind → Setup → ℕ → List ℤ → ℕ
@@ -50,7 +50,7 @@ valueOf kind setup order window = groupAnswer kind setup order (linesOf window) 
 
 -- a value against the exact group of a window
 abbrev pub ValueNear : Kind → Setup → ℕ → List ℤ → ℕ → Type 0
-ValueNear kind setup order window value = WithinMargin value (exactGroup kind setup order window)
+ValueNear kind setup order window value = WithinMargin groupMargin value (exactGroup kind setup order window)
 
 -- the group value that is answered for the lines of the window
 pub record GroupNear (kind : Kind) (setup : Setup) (order : ℕ) (window : List ℤ) : Type 0 where

@@ -2,5 +2,6 @@
 pub mod Distance
 pub mod ExactBook
 pub mod CallList
+pub mod LatestRows
 pub mod Rule
 pub mod Claim

@@ -63,6 +63,10 @@ by-test p q P f g = go (leb (p .num * q .den) (q .num * p .den)) (leb→le _ _) 
     go true l r = f (l tt)
     go false l r = g (r tt)
 
+pub +ᶠ-≤ᶠ : (p q r s : Fraction) → p ≤ᶠ q → r ≤ᶠ s → p +ᶠ r ≤ᶠ q +ᶠ s
+unfolding _+ᶠ_
++ᶠ-≤ᶠ p q r s h k = omega (arith, mul-le-mul-right (r .den * s .den) h, mul-le-mul-right (p .den * q .den) k)
+
 pub +ᶠ-whole-≤ᶠ : (p q : Fraction) (m : ℕ) → p ≤ᶠ q → p +ᶠ whole m ≤ᶠ q +ᶠ whole m
 unfolding whole _+ᶠ_
 +ᶠ-whole-≤ᶠ p q m h = omega arith

@@ -1,5 +1,5 @@
 -- Laws of `tabulate` and `anyOf`, in the form that a loop over a list's places uses: what is filled is the front of the definition's list, and the test over the rest is the test over the whole.
-use mathlib.Core.Path.{_≡_, refl, sym, _∙_}
+use mathlib.Core.Path.{_≡_, refl, sym, ap, ap₂, _∙_}
 use mathlib.Core.Logic.{⊎-elim}
 use mathlib.Core.Bool.{Bool, true, false, _||_}
 use mathlib.Core.List.{List, [], _∷_, _++_, append-assoc, append-nil}
@@ -108,6 +108,24 @@ getD-tabulate-le n f m h i = by-place (decLt i n)
         let past : length (tabulate n f) ≤ i = rw (length-tabulate n f) (omega arith) in
         let none : getD (tabulate n f) i 0 ≡ 0 = List·getD-eq-default (tabulate n f) 0 past in
         omega (arith, none)
+
+-- equal entries
+pub tabulate-eq : {A : Type 0} (n : ℕ) (f g : ℕ → A) → ((i : ℕ) → i < n → f i ≡ g i) → tabulate n f ≡ tabulate n g
+unfolding tabulate
+tabulate-eq zero f g equal = refl
+tabulate-eq (suc n) f g equal =
+    ap₂ (λ front last. front ++ (last ∷ [])) (tabulate-eq n f g (λ i inside. equal i (omega arith))) (equal n (omega arith))
+
+-- the last entry after those before it
+pub tabulate-last : {A : Type 0} (n : ℕ) (f : ℕ → A) → tabulate (suc n) f ≡ tabulate n f ++ (f n ∷ [])
+unfolding tabulate
+tabulate-last n f = refl
+
+-- the first entry, and those after it
+pub tabulate-first : {A : Type 0} (n : ℕ) (f : ℕ → A) → tabulate (suc n) f ≡ f 0 ∷ tabulate n (λ i. f (suc i))
+unfolding tabulate
+tabulate-first zero f = refl
+tabulate-first (suc n) f = ap (λ front. front ++ (f (suc n) ∷ [])) (tabulate-first n f)
 
 -- the same entry at every place
 pub tabulate-same : {A : Type 0} (n : ℕ) (f : ℕ → A) (x : A) → ((i : ℕ) → i < n → f i ≡ x) → tabulate n f ≡ replicate n x

@@ -1,11 +1,12 @@
 -- Cauchy-Schwarz over lists with weights, and the triangle step that follows from it, stated over squares so that no root is taken.
 -- Both are shown for absolute values, in ℕ.
 use mathlib.Core.Path.{_≡_, refl}
-use mathlib.Core.List.{List, [], _∷_, _++_}
+use mathlib.Core.List.{List, [], _∷_, _++_, map}
 use Prim.Native.Nat.{ℕ, zero, suc, _+_, _*_, _≤_, _<_}
 use native.Mathlib.Nat.{le-trans, le-of-lt, lt-of-le-of-lt, mul-le-mul, mul-le-mul-left}
 use native.Mathlib.Omega.{arith, by-contra}
 use lib.IntN.{ℤ, natAbs, _*ℤ_}
+use lib.ListN.{drop}
 use Rattle.algebra.specs.Lists.{tabulate}
 use Rattle.algebra.specs.Weighted.{sumOver, weightedSquares, Everywhere}
 use Rattle.algebra.proofs.Integer.{natAbs-*ℤ}
@@ -96,6 +97,24 @@ module _ {A : Type 0} where
   pub everywhere-imp : (F G : A → Type 0) → ((p : A) → F p → G p) → (places : List A) → Everywhere F places → Everywhere G places
   everywhere-imp F G i [] h = tt
   everywhere-imp F G i (p ∷ places) h = (i p (h .0), everywhere-imp F G i places (h .1))
+
+  -- two facts that give a third at each place
+  pub everywhere-both :
+      (F G H : A → Type 0) → ((p : A) → F p → G p → H p) → (places : List A) →
+      Everywhere F places → Everywhere G places → Everywhere H places
+  everywhere-both F G H i [] f g = tt
+  everywhere-both F G H i (p ∷ places) f g = (i p (f .0) (g .0), everywhere-both F G H i places (f .1) (g .1))
+
+  -- at each place but the first n
+  pub everywhere-drop : (F : A → Type 0) (n : ℕ) (places : List A) → Everywhere F places → Everywhere F (drop n places)
+  everywhere-drop F zero places h = h
+  everywhere-drop F (suc n) [] h = tt
+  everywhere-drop F (suc n) (p ∷ places) h = everywhere-drop F n places (h .1)
+
+  -- a fact of what is made of each entry
+  pub everywhere-of-map : {B : Type 0} (f : A → B) (F : B → Type 0) (places : List A) → Everywhere F (map f places) → Everywhere (λ p. F (f p)) places
+  everywhere-of-map f F [] h = tt
+  everywhere-of-map f F (p ∷ places) h = (h .0, everywhere-of-map f F places (h .1))
 
   -- two lists, one after the other
   pub sumOver-append : (f : A → ℕ) (places more : List A) → sumOver f (places ++ more) ≡ sumOver f places + sumOver f more

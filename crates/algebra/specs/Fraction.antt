@@ -1,6 +1,7 @@
 -- The fractions of document 01 that are not below 0: a whole number over one above 0, compared by cross products.
 -- Document 01 also writes value − 12; a comparison with it is stated with the 12 on the other side, so that no sign is needed.
 use mathlib.Core.Bool.{cond}
+use mathlib.Core.List.{List, [], _∷_}
 use mathlib.Core.Path.{_≡_}
 use Prim.Native.Nat.{ℕ, _+_, _-_, _*_, _≤_, _<_}
 use native.Mathlib.Nat.{mul-pos}
@@ -38,6 +39,11 @@ p +ᶠ q = record {
   den = p .den * q .den;
   den-pos = mul-pos (p .den-pos) (q .den-pos);
 }
+
+-- the sum of some
+unfoldable pub sumᶠ : List Fraction → Fraction
+sumᶠ [] = whole 0
+sumᶠ (p ∷ fractions) = p +ᶠ sumᶠ fractions
 
 -- a whole number of times
 unfoldable pub times : ℕ → Fraction → Fraction

@@ -1,45 +1,23 @@
--- Laws of group distortion: the sum of squares by its places and its bound, that the distortion is the largest whole t of
--- document 01 and is below 2^45, and that the largest t with t² × r² ≤ x is the root of x divided by r.
+-- Laws of group distortion: that it is the largest whole t of document 01 and is below 2^45, and that the largest t with
+-- t² × r² ≤ x is the root of x divided by r.
 use mathlib.Core.Path.{_≡_}
-use mathlib.Core.List.{List, [], _∷_}
-use Prim.Native.Nat.{ℕ, suc, _+_, _-_, _*_, _/_, _^_, _≤_, _<_}
-use native.Mathlib.Numerals.{add-one}
-use native.Mathlib.Nat.{lt-of-lt-of-le, lt-of-le-of-lt, mul-le-mul, mul-le-mul-left, div-mul-le-self, lt-div-mul-add}
+use mathlib.Core.List.{List}
+use Prim.Native.Nat.{ℕ, suc, _+_, _*_, _/_, _^_, _≤_, _<_}
+use native.Mathlib.Nat.{lt-of-lt-of-le, lt-of-le-of-lt, mul-le-mul, mul-le-mul-left}
 use native.Mathlib.Omega.{arith, by-contra}
 use lib.Dec.{leb, lit≤}
 use lib.ListN.{length, getD, drop, length-drop}
-use lib.Seq.{drop-cons, drop-length, getD-drop}
+use lib.Seq.{getD-drop}
 use Rattle.algebra.specs.Largest.{largest}
-use Rattle.algebra.specs.Weighted.{sumOver}
 use Rattle.algebra.proofs.Largest.{Bounded, largest-le, largest-ge, largest-eq}
 use Rattle.integers.specs.Root.{rootOf, rootLimit}
-use Rattle.integers.proofs.Root.{root-law}
 use Rattle.limbs.specs.Limbs.{valueOf, limbsOf}
 use Rattle.limbs.proofs.Limbs.{valueOf-limbsOf-lt}
 use Rattle.wide_numbers.specs.WideNumbers.{wideLimbs}
+use Rattle.wide_numbers.specs.Squares.{sumOfSquares}
+use Rattle.wide_numbers.proofs.SumsOfSquares.{sumOfSquares-le, root-quotient-bounds}
 use Rattle.rows.specs.Orders.{orderCount}
-use Rattle.distortion.specs.Distortion.{sumOfSquares, squaredThousand, distortionDigits, distortionOf}
-
--- the square at a place, and those after it
-pub sumOfSquares-drop : (values : List ℕ) (i : ℕ) → i < length values
-    → sumOfSquares (drop i values) ≡ sumOfSquares (drop (i + 1) values) + getD values i 0 * getD values i 0
-unfolding sumOfSquares sumOver
-sumOfSquares-drop values i h = rw (add-one i, drop-cons values i 0 h) (omega arith)
-
-pub sumOfSquares-end : (values : List ℕ) → sumOfSquares (drop (length values) values) ≡ 0
-unfolding sumOfSquares sumOver
-sumOfSquares-end values = rw (drop-length values)
-
-pub square-lt : (v : ℕ) → v < 2 ^ 32 → v * v < 2 ^ 64
-square-lt v h =
-    let le : v ≤ 2 ^ 32 - 1 = omega arith in
-    omega (arith, mul-le-mul le le)
-
-pub sumOfSquares-le : (values : List ℕ) → ((i : ℕ) → getD values i 0 < 2 ^ 32) → sumOfSquares values ≤ length values * 2 ^ 64
-unfolding sumOfSquares sumOver
-sumOfSquares-le [] h = omega arith
-sumOfSquares-le (v ∷ vs) h =
-    omega (arith, square-lt v (h 0), sumOfSquares-le vs (λ i. h (suc i)))
+use Rattle.distortion.specs.Distortion.{squaredThousand, distortionDigits, distortionOf}
 
 -- the scaled sum of a row of 32-bit values, and that its root has 64 binary digits
 scaled-sum-small : (values : List ℕ) → length values ≡ orderCount → ((i : ℕ) → getD values i 0 < 2 ^ 32)
@@ -94,12 +72,8 @@ module _ (values : List ℕ) (orders : length values ≡ 40) (fit : (i : ℕ) �
 -- the largest t with t² × r² at most x
 pub root-quotient : (r x : ℕ) → 0 < r → x < rootLimit → rootOf x / r ≡ largest (λ t. leb (t * t * (r * r)) x) distortionDigits
 root-quotient r x pos small =
-    let s = rootOf x in
-    let below : s / r * r ≤ s = div-mul-le-self s r in
-    let above : s < s / r * r + r = lt-div-mul-add pos in
-    largest-eq (λ t. t * t * (r * r)) x distortionDigits (squares-bounded r x pos small)
-    (omega (arith, mul-le-mul below below, root-law x small .0))
-    (omega (arith, mul-le-mul above above, root-law x small .1))
+    let bounds = root-quotient-bounds r x pos small in
+    largest-eq (λ t. t * t * (r * r)) x distortionDigits (squares-bounded r x pos small) (bounds .0) (bounds .1)
 
 -- the distortion of a row of 32-bit values, as it is worked out over four limbs
 pub distortion-quotient : (values : List ℕ) → length values ≡ orderCount → ((i : ℕ) → getD values i 0 < 2 ^ 32) → 0 < getD values 0 0

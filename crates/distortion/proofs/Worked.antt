@@ -6,7 +6,8 @@ use lib.ListN.{replicate}
 use Rattle.algebra.specs.Largest.{largest}
 use Rattle.algebra.specs.Weighted.{sumOver}
 use Rattle.refusals.specs.declared.Answer.{Answer}
-use Rattle.distortion.specs.Distortion.{sumOfSquares, distortionOf, distortionAnswer}
+use Rattle.wide_numbers.specs.Squares.{sumOfSquares}
+use Rattle.distortion.specs.Distortion.{distortionOf, distortionAnswer}
 
 -- the first value, the second, the last, and what is answered
 pub record Distorted : Type 0 where

@@ -5,13 +5,10 @@ use Prim.Native.Nat.{ℕ, _*_}
 use lib.Dec.{eqb, leb}
 use lib.ListN.{getD, drop}
 use Rattle.algebra.specs.Largest.{largest}
-use Rattle.algebra.specs.Weighted.{sumOver}
 use Rattle.refusals.specs.Numbers.{noFundamental}
 use Rattle.refusals.specs.Answers.{firstFault, answer}
 use Rattle.refusals.specs.declared.Answer.{Answer}
-
-unfoldable pub sumOfSquares : List ℕ → ℕ
-sumOfSquares values = sumOver (λ r. r * r) values
+use Rattle.wide_numbers.specs.Squares.{sumOfSquares}
 
 -- the square of the parts per thousand in 1
 abbrev pub squaredThousand : ℕ

@@ -1,22 +1,28 @@
 -- Demand 3 for the exported calls: the words follow the list of document 01, and demand 3 holds of the record after it.
 use mathlib.Core.Path.{_≡_, ap, _∙_, subst}
+use mathlib.Core.Bool.{cond}
 use mathlib.Core.List.{List, [], _∷_}
 use mathlib.Core.Option.{none}
 use Prim.Native.Nat.{ℕ, _-_}
+use borrow.Author.Tests.{eq-eqb, le-ltb}
+use lib.Dec.{ltb}
+use lib.ListN.{length}
 use native.Mathlib.Omega.{arith}
 use lib.IntN.{ℤ}
-use Rattle.refusals.specs.Numbers.{noRefusal}
+use Rattle.refusals.specs.Numbers.{noRefusal, tooFewWindows}
 use Rattle.refusals.specs.Answers.{firstFault}
 use Rattle.rows.specs.declared.Setup.{Setup}
 use Rattle.groups.specs.declared.Kind.{Kind}
 use Rattle.observation.specs.Book.{Book}
 use Rattle.observation.specs.Smoothing.{reported}
+use Rattle.observation.specs.Latest.{rowsKept}
 use Rattle.observation.specs.Calls.{bookAt}
 use Rattle.verdict.specs.declared.Question.{Question}
 use Rattle.verdict.specs.Call.{verdictRefusal}
 use Rattle.accuracy.specs.Distance.{EveryOrder}
-use Rattle.accuracy.specs.CallList.{CallList, after}
+use Rattle.accuracy.specs.CallList.{CallList, after, acceptedRows}
 use Rattle.accuracy.specs.Claim.{WorkedList, ListHolds, reportedBook, observedList}
+use Rattle.accuracy.proofs.WorkedRows.{worked-list-fits}
 use Rattle.accuracy.proofs.Demand3.{demand3}
 use Rattle.exported_answers.specs.OwnChecks.{wordCountCheck}
 use Rattle.record_words.specs.Words.{recordWords}
@@ -24,25 +30,53 @@ use Rattle.record_words.proofs.Words.{smoothed-word}
 use Rattle.exported_windows.specs.Kinds.{kindWith, kindCheck}
 use Rattle.exported_windows.specs.ObserveCall.{observeCallRefusal, observeCallExit}
 use Rattle.exported_records.specs.VerdictCall.{verdictCallRefusal, verdictCallExit}
+use Rattle.exported_records.specs.ThreeSecondCall.{threeSecondCallRefusal, threeSecondCallExit}
 use Rattle.exported_answers.proofs.Handed.{own-first-none}
 use Rattle.exported_records.proofs.VerdictCases.{given-case}
 use Rattle.exported_accuracy.specs.Calls.{wordsAfter}
-use Rattle.exported_accuracy.specs.Claim.{smoothedWord, CalledVerdict, WordsHold, CalledObserve, ExportedDemand3Holds}
-use Rattle.exported_accuracy.proofs.WordsFollow.{Follows, FollowsBegun, after-whole, record-held, observed-follows, calls-follow}
+use Rattle.exported_accuracy.specs.Claim.{smoothedWord, CalledVerdict, LatestWords, WordsHold, CalledObserve, ExportedDemand3Holds}
+use Rattle.exported_accuracy.proofs.WordsFollow.{Fit, Follows, FollowsBegun, after-whole, record-held, observed-follows, calls-follow}
 use Rattle.exported_accuracy.proofs.CalledGroups.{called-group, called-row}
+
+-- the latest rows, and the three-second value that is then asked for
+latest-words : (list : CallList) (words : List ℕ) → Follows list words → Fit list → LatestWords list words
+unfolding threeSecondCallRefusal threeSecondCallExit
+latest-words list words follows fits =
+    let claimed = demand3 .latest list (follows .known) fits in
+    let held = record-held list words follows fits in
+    let asked : EveryOrder (λ order. threeSecondCallRefusal words order ≡ cond (ltb (length (acceptedRows list)) rowsKept) tooFewWindows noRefusal) =
+    λ order positive le. rw (eq-eqb (length words) recordWords (follows .counted), held, claimed .asked order positive le) in
+    record {
+      held = follows .held fits;
+      claimed = claimed;
+      asked = asked;
+      left = λ order positive le enough before.
+          rw (
+            asked order positive le,
+            le-ltb (length (acceptedRows list)) rowsKept enough,
+            held,
+            claimed .same-latest order positive le,
+          );
+    }
 
 module _
     (kind : Kind) (list : CallList) (words : List ℕ)
     (follows : Follows list words) (worked : WorkedList kind list)
   where
+    fits : Fit list
+    fits = worked-list-fits kind list worked
+
+    kept : LatestWords list words
+    kept = latest-words list words follows fits
+
     claimed : ListHolds kind list
     claimed = demand3 .lists kind list (follows .known) worked
 
     smoothed-held : EveryOrder (λ order. smoothedWord words order ≡ reportedBook list order .smoothed)
     unfolding bookAt
     smoothed-held order positive le =
-        rw (follows .held)
-        (smoothed-word (after list) (order - 1) (after-whole list (follows .known)) (omega arith) ∙
+        rw (follows .held fits)
+        (smoothed-word (after list) (order - 1) (after-whole list (follows .known) fits) (omega arith) ∙
         ap (λ (book : Book reported). book .smoothed) (claimed .same-books order positive le))
 
     called-verdict :
@@ -52,7 +86,7 @@ module _
     unfolding verdictCallRefusal verdictCallExit
     called-verdict q asked =
         let o = after list in
-        let held = record-held list words follows in
+        let held = record-held list words follows fits in
         let passed : verdictRefusal o q ≡ noRefusal =
         own-first-none (firstFault (wordCountCheck recordWords words ∷ [])) _ (rw held at asked) in
         let given = claimed .verdicts q passed in
@@ -69,10 +103,14 @@ module _
     pub words-hold : WordsHold kind list words
     words-hold =
         record {
-          held = follows .held;
+          held = follows .held fits;
           claimed = claimed;
           smoothed-low = λ order positive le book. rw (smoothed-held order positive le) (claimed .smoothed-low order positive le book);
           smoothed-high = λ order positive le book. rw (smoothed-held order positive le) (claimed .smoothed-high order positive le book);
+          latest = kept;
+          three-second-near = λ order positive le enough samples before.
+              let answered = claimed .latest .answered order positive le enough in
+              rw (kept .left order positive le enough before) (rw answered at (claimed .three-second-near order positive le enough samples));
           verdicts = called-verdict;
         }
 
@@ -92,6 +130,9 @@ exported-demand3 =
     record {
       groups = called-group;
       rows = called-row;
+      latest = λ words whole calls list came fits.
+          let follow = calls-follow calls none words whole in
+          latest-words list _ (subst (λ begun. FollowsBegun begun (wordsAfter words calls)) came follow) fits;
       lists = λ kind words whole calls list came worked.
           let follow = calls-follow calls none words whole in
           words-hold kind list _ (subst (λ begun. FollowsBegun begun (wordsAfter words calls)) came follow) worked;

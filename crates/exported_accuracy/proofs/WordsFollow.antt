@@ -1,17 +1,18 @@
 -- The words of a record follow the list of document 01 that the calls have come to.
--- The invariant: before the first fresh record or observation there are 123 words, any; after it they are the words of the record after the list.
+-- The invariant: there are 423 words, any before the first fresh record or observation; after it they are the words of the record after the list, where its accepted rows hold values of 32 bits as a caller's rows do.
 use mathlib.Core.Path.{_≡_, refl, sym, ap}
 use mathlib.Core.Bool.{Bool, true, false, cond, not, _&&_}
-use mathlib.Core.List.{List, [], _∷_, _++_, append-nil}
+use mathlib.Core.List.{List, [], _∷_, _++_, map, append-nil}
 use mathlib.Core.Option.{Option, none, some}
-use Prim.Native.Nat.{ℕ, _≤_}
+use Prim.Native.Nat.{ℕ, _≤_, _<_}
 use native.Mathlib.Omega.{arith}
 use native.Mathlib.Decide.{decLe}
 use lib.Dec.{eqb, leb}
 use lib.IntN.{ℤ}
-use lib.ListN.{length, take, drop, length-take, take-append-drop, drop-of-length-le}
+use lib.ListN.{length, getD, take, drop, replicate, length-replicate, length-take, take-append-drop, drop-of-length-le}
 use lib.Seq.{take-all}
 use borrow.Author.Tests.{eqb-true, eq-eqb, ne-eqb, le-leb, lt-leb}
+use Rattle.algebra.specs.Lists.{anyOf}
 use Rattle.algebra.proofs.Lists.{length-tabulate}
 use Rattle.refusals.specs.Numbers.{noRefusal, unknownSystem, unknownEdition}
 use Rattle.refusals.specs.Answers.{firstFault, unlessRefused}
@@ -21,23 +22,32 @@ use Rattle.rows.specs.Setups.{isSetup}
 use Rattle.rows.proofs.Setups.{isSetup-known}
 use Rattle.rows.specs.declared.Setup.{Setup}
 use Rattle.rows.specs.Orders.{orderCount}
+use Rattle.rows.specs.Rows.{largestValue, ValuesFit}
 use Rattle.rows.specs.declared.Row.{Row}
 use Rattle.observation.specs.declared.Observation.{Observation}
+use Rattle.observation.specs.Latest.{valuesKept, withLatest}
+use Rattle.observation.specs.Soundness.{isSound, noneAbove}
+use Rattle.observation.specs.BookCalls.{acceptedCalls, AcceptedFit}
 use Rattle.observation.specs.Calls.{emptyRecord, freshRefusal, withRow, addRowRefusal, addRowAnswer}
 use Rattle.observation.specs.RecordAfter.{recordAfter}
 use Rattle.observation.proofs.RecordAfter.{record-after-snoc}
-use Rattle.observation.proofs.SoundRecord.{fresh-of-known}
+use Rattle.observation.proofs.NoneAbove.{getD-le-of-none-above}
+use Rattle.observation.proofs.Latest.{length-withLatest, withLatest-le}
+use Rattle.observation.proofs.SoundRecord.{by-acceptance, answer-sound, empty-record-sound, fresh-of-known}
 use Rattle.observe.specs.Observe.{windowRows, observeRefusal}
-use Rattle.accuracy.specs.CallList.{CallList, after}
+use Rattle.accuracy.specs.CallList.{CallList, after, accepted}
 use Rattle.accuracy.specs.Claim.{observedList}
+use Rattle.accuracy.proofs.AcceptedCalls.{each-accepted-front}
 use Rattle.accuracy.proofs.ObservedRows.{observed-setup}
 use Rattle.exported_windows.specs.Kinds.{unknownKind, isKind, kindWith}
 use Rattle.exported_answers.specs.OwnChecks.{wrongWordCount, wordCountCheck, ownFirst}
-use Rattle.record_words.specs.Words.{recordWords, partsOf, wordsOf, recordOf, Whole}
-use Rattle.record_words.proofs.Words.{record-of-words, wordsOf-length}
+use Rattle.record_words.specs.Halves.{halfBase}
+use Rattle.record_words.specs.Words.{latestWords, recordParts, recordWords, partsOf, wordsOf, recordOf, Whole}
+use Rattle.record_words.proofs.Halves.{packed-length}
+use Rattle.record_words.proofs.Words.{latest-of-record, record-of-words, wordsOf-length}
 use Rattle.exported_records.specs.RecordCalls.{lentRow, freshCallRefusal, freshCallExit, addRowCallRefusal, addRowCallExit}
 use Rattle.exported_windows.specs.ObserveCall.{observeCallRefusal, observeCallExit}
-use Rattle.exported_accuracy.specs.Calls.{Asked, freshRecord, observeWindows, addRow, askVerdict, Call, leftBy, wordsAtExit, wordsAfter, withCall, listAsked, listAtExit, listAfter}
+use Rattle.exported_accuracy.specs.Calls.{Asked, freshRecord, observeWindows, addRow, askVerdict, askThreeSecond, Call, leftBy, wordsAtExit, wordsAfter, withCall, listAsked, listAtExit, listAfter}
 
 -- ---- what a call leaves
 
@@ -53,44 +63,98 @@ by-refusal P refusal {accepted} {unchanged} success refused = either (eqb refusa
     either true = success
     either false = refused
 
--- ---- records with 40 values in each part
+-- ---- records whose parts have their counts of words, and the latest rows their count of values
+
+record PartsWhole (o : Observation) : Type 0 where
+  parts : map length (partsOf o) ≡ recordParts
+  latest : length (o .latest) ≡ valuesKept
+
+empty-parts : (setup : Setup) → PartsWhole (emptyRecord setup)
+unfolding emptyRecord partsOf
+empty-parts setup =
+    let zeros = length-replicate {A = ℕ} valuesKept 0 in
+    record { parts = rw (packed-length (replicate valuesKept 0) latestWords zeros); latest = zeros }
+
+with-row-parts : (o : Observation) (row : Row) → length (o .latest) ≡ valuesKept → PartsWhole (withRow o row)
+unfolding withRow partsOf
+with-row-parts o row before =
+    let kept = length-withLatest (o .windows) (row .values) (o .latest) before in
+    record { parts = simp (length-tabulate, packed-length (withLatest (o .windows) (row .values) (o .latest)) latestWords kept); latest = kept }
+
+record-after-parts : (o : Observation) (rows : List Row) → PartsWhole o → PartsWhole (recordAfter o rows)
+unfolding recordAfter addRowAnswer
+record-after-parts o [] before = before
+record-after-parts o (row ∷ rows) before =
+    record-after-parts (addRowAnswer o row .observation) rows
+    (by-refusal PartsWhole (addRowRefusal o row) (with-row-parts o row (before .latest)) before)
+
+-- ---- and whose latest rows hold values of 32 bits
+
+zero-fits : (values : List ℕ) → noneAbove 0 values ≡ true → (i : ℕ) → getD values i 0 < halfBase
+zero-fits values zeros i = omega (arith, getD-le-of-none-above 0 values i zeros)
 
 empty-whole : (setup : Setup) → Whole (emptyRecord setup)
-unfolding emptyRecord Whole partsOf
-empty-whole setup = refl
+unfolding emptyRecord noneAbove anyOf
+empty-whole setup =
+    let whole = empty-parts setup in
+    record {
+      parts = whole .parts;
+      latest = whole .latest;
+      latest-fit = zero-fits (replicate valuesKept 0) refl;
+    }
 
-with-row-whole : (o : Observation) (row : Row) → Whole (withRow o row)
-unfolding withRow Whole partsOf
-with-row-whole o row = simp length-tabulate
+with-row-whole : (o : Observation) (row : Row) → Whole o → ValuesFit row → Whole (withRow o row)
+unfolding withRow ValuesFit
+with-row-whole o row before fits =
+    let whole = with-row-parts o row (before .latest) in
+    record {
+      parts = whole .parts;
+      latest = whole .latest;
+      latest-fit = λ i.
+          omega (
+            arith,
+            withLatest-le (o .windows) (row .values) (o .latest) (before .latest) largestValue fits (λ j. omega (arith, before .latest-fit j)) i,
+          );
+    }
 
-record-after-whole : (o : Observation) (rows : List Row) → Whole o → Whole (recordAfter o rows)
-unfolding recordAfter addRowAnswer
-record-after-whole o [] before = before
-record-after-whole o (row ∷ rows) before =
-    record-after-whole (addRowAnswer o row .observation) rows (by-refusal Whole (addRowRefusal o row) (with-row-whole o row) before)
+record-after-whole :
+    (o : Observation) (rows : List Row) → isSound o ≡ true → AcceptedFit (o .setup) (o .windows) rows → Whole o → Whole (recordAfter o rows)
+unfolding recordAfter acceptedCalls
+record-after-whole o [] sound fits before = before
+record-after-whole o (row ∷ rows) sound fits before =
+    let next = answer-sound o row rows sound fits in
+    record-after-whole (addRowAnswer o row .observation) rows (next .0) (next .1)
+    (by-acceptance Whole o row sound (λ e. with-row-whole o row before (rw e at fits .0)) (λ e. before))
 
 -- ---- the invariant
 
+-- the accepted rows of a list hold values of 32 bits
+abbrev pub Fit : CallList → Type 0
+Fit list = AcceptedFit (list .setup) 0 (list .rows)
+
 pub record Follows (list : CallList) (words : List ℕ) : Type 0 where
   pub known : isSetup (list .setup) ≡ true
-  pub held : words ≡ wordsOf (after list)
+  pub counted : length words ≡ recordWords
+  pub held : Fit list → words ≡ wordsOf (after list)
 
 abbrev pub FollowsBegun : Option CallList → List ℕ → Type 0
 FollowsBegun none words = length words ≡ recordWords
 FollowsBegun (some list) words = Follows list words
 
-pub after-whole : (list : CallList) → isSetup (list .setup) ≡ true → Whole (after list)
-unfolding after
-after-whole list known = record-after-whole _ (list .rows) (rw (fresh-of-known (list .setup) known) (empty-whole (list .setup)))
+pub after-whole : (list : CallList) → isSetup (list .setup) ≡ true → Fit list → Whole (after list)
+unfolding after emptyRecord
+after-whole list known fits =
+    rw (fresh-of-known (list .setup) known)
+    (record-after-whole (emptyRecord (list .setup)) (list .rows) (empty-record-sound (list .setup) known) fits (empty-whole (list .setup)))
 
 -- the words hold the record after the list
-pub record-held : (list : CallList) (words : List ℕ) → Follows list words → recordOf words ≡ after list
-record-held list words follows =
-    rw (follows .held) (record-of-words (after list) (after-whole list (follows .known)))
+pub record-held : (list : CallList) (words : List ℕ) → Follows list words → Fit list → recordOf words ≡ after list
+record-held list words follows fits =
+    rw (follows .held fits) (record-of-words (after list) (after-whole list (follows .known) fits))
 
 follows-length : (begun : Option CallList) (words : List ℕ) → FollowsBegun begun words → length words ≡ recordWords
 follows-length none words whole = whole
-follows-length (some list) words follows = rw (follows .held) (wordsOf-length _ (after-whole list (follows .known)))
+follows-length (some list) words follows = follows .counted
 
 -- ---- one call
 
@@ -98,19 +162,25 @@ follows-length (some list) words follows = rw (follows .held) (wordsOf-length _ 
 abbrev rowAdded : List ℕ → Row → List ℕ
 rowAdded words row = unlessRefused (addRowRefusal (recordOf words) row) (wordsOf (withRow (recordOf words) row)) words
 
+row-added-length : (words : List ℕ) (row : Row) → length words ≡ recordWords → length (rowAdded words row) ≡ recordWords
+row-added-length words row whole =
+    by-refusal (λ (l : List ℕ). length l ≡ recordWords) (addRowRefusal (recordOf words) row)
+    (wordsOf-length _ (with-row-parts (recordOf words) row (latest-of-record words) .parts))
+    whole
+
 row-follows :
     (begun : Option CallList) (words : List ℕ) (row : Row) →
     FollowsBegun begun words →
     FollowsBegun (withCall begun row) (rowAdded words row)
 unfolding withCall after addRowAnswer
-row-follows none words row whole =
-    by-refusal (λ (l : List ℕ). length l ≡ recordWords) (addRowRefusal (recordOf words) row)
-    (wordsOf-length _ (with-row-whole (recordOf words) row))
-    whole
+row-follows none words row whole = row-added-length words row whole
 row-follows (some list) words row follows =
     record {
       known = follows .known;
-      held = rw (record-held list words follows, follows .held, record-after-snoc _ (list .rows) row)
+      counted = row-added-length words row (follows .counted);
+      held = λ fits.
+          let before = each-accepted-front (λ r. r) ValuesFit (accepted list) 0 (list .rows) (row ∷ []) fits in
+          rw (record-held list words follows before, follows .held before, record-after-snoc _ (list .rows) row)
           (either (eqb (addRowRefusal (after list) row) noRefusal));
     }
   where
@@ -131,7 +201,11 @@ pub observed-follows :
 unfolding after
 observed-follows number setup recording start windows accepted =
     let known = observed-setup (kindWith number) setup recording start windows accepted in
-    record { known = known; held = rw (fresh-of-known setup known) }
+    record {
+      known = known;
+      counted = wordsOf-length _ (record-after-parts (emptyRecord setup) _ (empty-parts setup) .parts);
+      held = λ fits. rw (fresh-of-known setup known);
+    }
 
 module _ (begun : Option CallList) (words : List ℕ) (follows : FollowsBegun begun words) where
   whole : length words ≡ recordWords
@@ -154,7 +228,11 @@ module _ (begun : Option CallList) (words : List ℕ) (follows : FollowsBegun be
           words)
       go true true e f =
           let is-setup = isSetup-known setup e f in
-          record { known = is-setup; held = ap wordsOf (sym (fresh-of-known setup is-setup)) }
+          record {
+            known = is-setup;
+            counted = wordsOf-length _ (empty-parts setup .parts);
+            held = λ fits. ap wordsOf (sym (fresh-of-known setup is-setup));
+          }
       go true false e f = follows
       go false edition e f = follows
 
@@ -206,8 +284,9 @@ module _ (begun : Option CallList) (words : List ℕ) (follows : FollowsBegun be
   asked-follows (observeWindows number setup recording start windows) = observe-follows number setup recording start windows
   asked-follows (addRow setup values) = add-row-follows setup values
   asked-follows (askVerdict q) = follows
+  asked-follows (askThreeSecond order) = follows
 
-  -- other than 123 words stay as they were
+  -- other than 423 words stay as they were
   left-alone : (part : List ℕ) (asked : Asked) → (length part ≡ recordWords → ⊥) → leftBy part asked ≡ part
   unfolding leftBy freshCallExit freshCallRefusal observeCallExit observeCallRefusal addRowCallExit addRowCallRefusal
   left-alone part (freshRecord setup) other = rw (ne-eqb (length part) recordWords other)
@@ -224,6 +303,7 @@ module _ (begun : Option CallList) (words : List ℕ) (follows : FollowsBegun be
       by-kind false = refl
   left-alone part (addRow setup values) other = rw (ne-eqb (length part) recordWords other)
   left-alone part (askVerdict q) other = refl
+  left-alone part (askThreeSecond order) other = refl
 
   call-follows : (call : Call) → FollowsBegun (listAtExit begun call) (wordsAtExit words call)
   unfolding wordsAtExit listAtExit

@@ -22,13 +22,13 @@ use Rattle.verdict.specs.Question.{asked}
 use Rattle.record_words.specs.Words.{recordWords}
 use Rattle.observe.specs.Observe.{windowRows, observeChecks, observeRefusal}
 use Rattle.exported_windows.specs.Kinds.{isKind, kinds}
-use Rattle.exported_accuracy.specs.Calls.{Asked, freshRecord, observeWindows, addRow, askVerdict, Call, wordsAfter, withCall, listAsked, listAtExit, listAfter}
+use Rattle.exported_accuracy.specs.Calls.{Asked, freshRecord, observeWindows, addRow, askVerdict, askThreeSecond, Call, wordsAfter, withCall, listAsked, listAtExit, listAfter}
 use Rattle.exported_accuracy.specs.Claim.{WordsHold}
 use Rattle.exported_accuracy.proofs.ExportedDemand3.{exported-demand3}
 
 -- a call that lends all its words
 abbrev lendingAll : Asked → Call
-lendingAll call = record { lent = 123; asked = call }
+lendingAll call = record { lent = 423; asked = call }
 
 module _ (kind : Kind) (window next : List ℤ) where
   calls : ℕ → List Call
@@ -46,15 +46,16 @@ module _ (kind : Kind) (window next : List ℤ) where
       lendingAll (observeWindows 5 (setupOf 12 edition) [] 0 0) ∷
       lendingAll (observeWindows 1 (setupOf 12 edition) [] 0 1) ∷
       lendingAll (addRow own (groupValues kind own (linesOf window))) ∷
-      -- another system, another edition, no edition, 39 values, a verdict in each class, a fresh record of no system and 122 words change nothing
+      -- another system, another edition, no edition, 39 values, a verdict in each class, a three-second value, a fresh record of no system and 422 words change nothing
       lendingAll (addRow (setupOf 12 edition) (replicate orderCount 1)) ∷
       lendingAll (addRow (setupOf 10 (1 - edition)) (replicate orderCount 1)) ∷
       lendingAll (addRow (setupOf 10 2) (replicate orderCount 1)) ∷
       lendingAll (addRow own (replicate 39 1)) ∷
       lendingAll (askVerdict (asked 3 65 1000000)) ∷
       lendingAll (askVerdict (asked 3 66 1000000)) ∷
+      lendingAll (askThreeSecond 3) ∷
       lendingAll (freshRecord (setupOf 0 edition)) ∷
-      record { lent = 122; asked = freshRecord (setupOf 12 edition) } ∷
+      record { lent = 422; asked = freshRecord (setupOf 12 edition) } ∷
       lendingAll (addRow own (groupValues kind own (linesOf next))) ∷
       []
 

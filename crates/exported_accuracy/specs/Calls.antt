@@ -30,13 +30,16 @@ pub data Asked : Type 0 where
   addRow : Setup → List ℕ → Asked
   -- kifsang_verdict with what is asked
   askVerdict : Question → Asked
+  -- kifsang_three_second_value with an order
+  askThreeSecond : ℕ → Asked
 
--- what some words hold at exit, by the contract of each function; a verdict only reads them
+-- what some words hold at exit, by the contract of each function; a verdict and a three-second value only read them
 unfoldable pub leftBy : List ℕ → Asked → List ℕ
 leftBy words (freshRecord setup) = freshCallExit setup words
 leftBy words (observeWindows number setup recording start windows) = observeCallExit number setup recording start windows words
 leftBy words (addRow setup values) = addRowCallExit words setup values
 leftBy words (askVerdict q) = words
+leftBy words (askThreeSecond order) = words
 
 -- a call lends so many of the caller's words from the first on, all of them where there are fewer
 pub record Call : Type 0 where
@@ -67,8 +70,9 @@ listAsked begun (observeWindows number setup recording start windows) =
 listAsked begun (addRow setup values) =
     cond (eqb (length values) orderCount) (withCall begun (lentRow setup values)) begun
 listAsked begun (askVerdict q) = begun
+listAsked begun (askThreeSecond order) = begun
 
--- a call that lends fewer than 123 words is refused before it looks at the record
+-- a call that lends fewer than 423 words is refused before it looks at the record
 unfoldable pub listAtExit : Option CallList → Call → Option CallList
 listAtExit begun call = cond (leb recordWords (call .lent)) (listAsked begun (call .asked)) begun
 

@@ -1,13 +1,15 @@
--- Demand 3 of what the exported calls leave in the caller's buffers (document 01, "Groups", "The list" and "Class A verdicts"), in every class
--- and under every edition (document 02, cards 1 and 7).
+-- Demand 3 of what the exported calls leave in the caller's buffers (document 01, "Groups", "The list" and "Class A verdicts"), in every class,
+-- under every edition and with the three-second value (document 02, cards 1, 7 and 8).
 use mathlib.Core.Path.{_≡_}
+use mathlib.Core.Bool.{cond}
 use mathlib.Core.List.{List}
 use mathlib.Core.Option.{none, some}
-use Prim.Native.Nat.{ℕ, _+_, _-_}
+use Prim.Native.Nat.{ℕ, _+_, _-_, _≤_}
+use lib.Dec.{ltb}
 use lib.IntN.{ℤ}
 use lib.ListN.{length, getD}
 use Rattle.algebra.specs.Fraction.{whole, _+ᶠ_, _≤ᶠ_}
-use Rattle.refusals.specs.Numbers.{noRefusal}
+use Rattle.refusals.specs.Numbers.{noRefusal, tooFewWindows}
 use Rattle.rows.specs.declared.Setup.{Setup}
 use Rattle.spectrum.specs.Line.{windowAt}
 use Rattle.spectrum.specs.Spectrum.{spectrumRefusal, spectrumExit}
@@ -17,16 +19,21 @@ use Rattle.limits.specs.Letters.{letterOf}
 use Rattle.verdict.specs.declared.Question.{Question}
 use Rattle.verdict.specs.declared.Verdict.{Verdict}
 use Rattle.observation.specs.Smoothing.{smoothedMargin}
+use Rattle.observation.specs.Latest.{rowsKept}
+use Rattle.observation.specs.BookCalls.{AcceptedFit}
 use Rattle.verdict.specs.Call.{orderNumber}
-use Rattle.accuracy.specs.Distance.{EveryOrder, ValueNear}
-use Rattle.accuracy.specs.CallList.{CallList, after, state}
-use Rattle.accuracy.specs.Claim.{Worked, WorkedList, LBook, UBook, Keeps, ListHolds, observedList}
+use Rattle.three_seconds.specs.ThreeSecond.{threeSecondOf}
+use Rattle.accuracy.specs.Distance.{EveryOrder, WithinMargin, ValueNear}
+use Rattle.accuracy.specs.CallList.{CallList, after, acceptedRows, state}
+use Rattle.accuracy.specs.LatestRows.{lastValues, LatestHolds}
+use Rattle.accuracy.specs.Claim.{Worked, WorkedList, LBook, UBook, Keeps, SampledRows, threeSecondMargin, exactThreeSecond, ListHolds, observedList}
 use Rattle.exported_windows.specs.Kinds.{kindWith}
 use Rattle.exported_windows.specs.GroupCalls.{groupCallRefusal, groupCallExit, rowCallRefusal, rowCallExit}
 use Rattle.record_words.specs.Words.{smoothedPlace, recordWords, wordsOf}
 use Rattle.exported_records.specs.RecordCalls.{lentRow}
 use Rattle.exported_windows.specs.ObserveCall.{observeCallRefusal, observeCallExit}
 use Rattle.exported_records.specs.VerdictCall.{verdictNumber, verdictCallRefusal, verdictCallExit}
+use Rattle.exported_records.specs.ThreeSecondCall.{threeSecondCallRefusal, threeSecondCallExit}
 use Rattle.exported_accuracy.specs.Calls.{Call, wordsAfter, listAfter}
 
 -- the word of an order's smoothed value
@@ -42,6 +49,18 @@ pub record CalledVerdict (kind : Kind) (list : CallList) (words : List ℕ) (q :
   pub number : (before : ℕ) → verdictCallExit words q before ≡ verdictNumber verdict
   pub kept : Keeps kind list class (q .order) (q .scale) verdict
 
+-- what some words hold after any list of document 01, whatever 32-bit values its rows hold (document 02, card 8)
+pub record LatestWords (list : CallList) (words : List ℕ) : Type 0 where
+  -- they are the words of the record after the list, of whose latest rows this is claimed
+  pub held : words ≡ wordsOf (after list)
+  pub claimed : LatestHolds list
+  -- the call for the three-second value is refused with 20 before the fifteenth accepted row
+  pub asked : EveryOrder (λ order. threeSecondCallRefusal words order ≡ cond (ltb (length (acceptedRows list)) rowsKept) tooFewWindows noRefusal)
+  -- and leaves from then on that of the last 15 accepted rows, whatever the value was before
+  pub left : EveryOrder (λ order.
+      rowsKept ≤ length (acceptedRows list) →
+      (before : ℕ) → threeSecondCallExit words order before ≡ threeSecondOf (lastValues list order))
+
 -- what some words hold after a list of document 01
 pub record WordsHold (kind : Kind) (list : CallList) (words : List ℕ) : Type 0 where
   -- they are the words of the record after the list, of which demand 3 is claimed
@@ -52,6 +71,12 @@ pub record WordsHold (kind : Kind) (list : CallList) (words : List ℕ) : Type 0
       (book : LBook kind list order) → state list book .smoothed ≤ᶠ whole (smoothedWord words order + smoothedMargin))
   pub smoothed-high : EveryOrder (λ order.
       (book : UBook kind list order) → whole (smoothedWord words order) ≤ᶠ state list book .smoothed +ᶠ whole smoothedMargin)
+  -- the three-second value is that of the list, and within 8 units of the exact one
+  pub latest : LatestWords list words
+  pub three-second-near : EveryOrder (λ order.
+      rowsKept ≤ length (acceptedRows list) →
+      (samples : SampledRows kind list) (before : ℕ) →
+      WithinMargin threeSecondMargin (threeSecondCallExit words order before) (exactThreeSecond kind order (samples .sampled)))
   pub verdicts :
       (q : Question) →
       verdictCallRefusal words q ≡ noRefusal →
@@ -83,8 +108,8 @@ CalledObserve recording start number setup windows before =
     (observeCallExit number setup recording start windows before)
 
 -- Demand 3 for the exported calls: the distance of a group value; a row that is worked from samples; and for any calls on
--- any 123 words, refused ones and ones that lend fewer words included, the claim about the list that they have come to,
--- where its accepted rows are worked from samples of one kind; and of an observation, whose rows are.
+-- any 423 words, refused ones and ones that lend fewer words included, the latest rows of the list that they have come to,
+-- and the claim about it where its accepted rows are worked from samples of one kind; and of an observation, whose rows are.
 pub record ExportedDemand3Holds : Type 0 where
   pub groups :
       (recording : List ℤ) (start : ℕ) (buffer : List ℕ) (number : ℕ) (setup : Setup) (order before : ℕ) →
@@ -92,6 +117,13 @@ pub record ExportedDemand3Holds : Type 0 where
   pub rows :
       (recording : List ℤ) (start : ℕ) (buffer : List ℕ) (number : ℕ) (setup : Setup) (before : List ℕ) →
       CalledRow recording start buffer number setup before
+  pub latest :
+      (words : List ℕ) →
+      length words ≡ recordWords →
+      (calls : List Call) (list : CallList) →
+      listAfter none calls ≡ some list →
+      AcceptedFit (list .setup) 0 (list .rows) →
+      LatestWords list (wordsAfter words calls)
   pub lists :
       (kind : Kind) (words : List ℕ) →
       length words ≡ recordWords →

@@ -32,6 +32,14 @@ fn finish_refusal(reading: Reading) -> u32
     let refusal = reading.refusal;
     let observation = reading.observation;
     let windows = observation.windows;
+    let sound = is_sound(
+        observation.setup,
+        windows,
+        &observation.smoothed,
+        &observation.sum,
+        &observation.peak,
+        &observation.latest,
+    );
     fault_or(
         LARGEST_REFUSAL < refusal,
         UNSOUND_RECORD,
@@ -39,7 +47,7 @@ fn finish_refusal(reading: Reading) -> u32
             refusal != NO_REFUSAL,
             refusal,
             fault_or(
-                !is_sound(observation),
+                !sound,
                 UNSOUND_RECORD,
                 fault_or(windows == 0, NO_WINDOW, NO_REFUSAL),
             ),

@@ -1,7 +1,9 @@
 -- The theorems of the observation record.
 pub mod NoneAbove
+pub mod Latest
 pub mod Smoothed
 pub mod SoundRecord
 pub mod RecordBooks
+pub mod LatestAfter
 pub mod RecordAfter
 pub mod Worked

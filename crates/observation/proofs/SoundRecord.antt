@@ -8,7 +8,7 @@ use native.Mathlib.Nat.{max-le}
 use native.Mathlib.Omega.{arith}
 use borrow.Author.Tests.{eqb-true, ne-eqb, leb-true, leb-false, le-leb, not-false}
 use lib.Dec.{leb}
-use lib.ListN.{getD}
+use lib.ListN.{getD, drop}
 use Rattle.algebra.specs.Lists.{anyOf}
 use Rattle.algebra.proofs.Tests.{allTrue-at}
 use Rattle.rows.specs.Setups.{isSetup}
@@ -26,9 +26,10 @@ use Rattle.observation.specs.Soundness.{mostWindows, noneAbove, allZero,
 use Rattle.rows.specs.Rows.{largestValue, ValuesFit}
 use Rattle.observation.specs.Calls.{emptyRecord, freshRefusal, freshAnswer, bookAt, nextBook, withRow, rowChecks, addRowRefusal, addRowAnswer}
 use Rattle.observation.specs.RecordAfter.{recordAfter}
-use Rattle.observation.specs.BookCalls.{accepts, EachAccepted, AcceptedFit}
+use Rattle.observation.specs.BookCalls.{accepts, acceptedCalls, AcceptedFit}
 use Rattle.observation.proofs.NoneAbove.{getD-le-of-none-above, none-above-tabulate}
 use Rattle.observation.proofs.Smoothed.{smoothed-next-le}
+use Rattle.observation.proofs.Latest.{zeros-withLatest}
 
 pub record SoundParts (o : Observation) : Type 0 where
   pub setup-known : isSetup (o .setup) ≡ true
@@ -36,6 +37,7 @@ pub record SoundParts (o : Observation) : Type 0 where
   pub sum-le : (i : ℕ) → getD (o .sum) i 0 ≤ o .windows * largestValue
   pub peak-le : (i : ℕ) → getD (o .peak) i 0 ≤ largestValue
   pub smoothed-le : (i : ℕ) → getD (o .smoothed) i 0 ≤ largestValue
+  pub zeros-to-come : noneAbove 0 (drop (o .windows * orderCount) (o .latest)) ≡ true
 
 pub sound-parts : (o : Observation) → isSound o ≡ true → SoundParts o
 unfolding isSound
@@ -47,6 +49,7 @@ sound-parts o e =
       sum-le = λ i. getD-le-of-none-above _ _ i (passed 2);
       peak-le = λ i. getD-le-of-none-above _ _ i (passed 3);
       smoothed-le = λ i. getD-le-of-none-above _ _ i (passed 4);
+      zeros-to-come = passed 6;
     }
 
 pub empty-record-sound : (setup : Setup) → isSetup setup ≡ true → isSound (emptyRecord setup) ≡ true
@@ -66,10 +69,10 @@ pub record AcceptedRow (setup : Setup) (count : ℕ) (row : Row) : Type 0 where
   pub room : count < mostWindows
 
 pub accepted-row :
-    (setup : Setup) (count : ℕ) (row : Row) → firstFault (rowChecks setup count row) ≡ noRefusal → AcceptedRow setup count row
+    (setup : Setup) (count : ℕ) (row : Row) → firstFault (rowChecks setup count (row .setup)) ≡ noRefusal → AcceptedRow setup count row
 unfolding rowChecks
 accepted-row setup count row e =
-    let passed = no-faults (rowChecks setup count row) refl e in
+    let passed = no-faults (rowChecks setup count (row .setup)) refl e in
     record {
       setup-known = isSetup-known _ (not-false _ (passed unknownSystem)) (not-false _ (passed unknownEdition));
       setup-own = sameSetup-eq _ _ (not-false _ (passed otherSetup));
@@ -109,6 +112,7 @@ with-row-sound o row sound room fits =
           (λ i l. max-le (parts .peak-le i) (next i)),
       none-above-tabulate largestValue orderCount (λ i. nextBook o row i .smoothed) (λ i l. next i),
       ne-eqb (o .windows + 1) 0 (λ e. omega arith),
+      zeros-withLatest (o .windows) (row .values) (o .latest) (parts .zeros-to-come),
     )
 
 -- a sound record is refused a row by the row's own checks alone
@@ -150,7 +154,7 @@ pub answer-sound :
     (o : Observation) (row : Row) (rows : List Row) → isSound o ≡ true → AcceptedFit (o .setup) (o .windows) (row ∷ rows) →
     let after = addRowAnswer o row .observation in
     (isSound after ≡ true) × AcceptedFit (after .setup) (after .windows) rows
-unfolding EachAccepted withRow
+unfolding acceptedCalls withRow
 answer-sound o row rows sound fits =
     by-acceptance (λ after. (isSound after ≡ true) × AcceptedFit (after .setup) (after .windows) rows) o row sound
     (λ e.

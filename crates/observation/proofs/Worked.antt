@@ -2,18 +2,20 @@
 use mathlib.Core.Bool.{Bool, true, false}
 use mathlib.Core.List.{List, [], _∷_, _++_, map}
 use mathlib.Core.Path.{_≡_, refl}
-use Prim.Native.Nat.{ℕ}
+use Prim.Native.Nat.{ℕ, _-_}
 use lib.ListN.{replicate}
-use Rattle.algebra.specs.Lists.{tabulate, anyOf}
+use Rattle.algebra.specs.Lists.{tabulate, joined, anyOf}
 use Rattle.algebra.specs.Rounding.{nearest}
 use Rattle.rows.specs.Systems.{isSystem}
 use Rattle.rows.specs.Editions.{isEdition}
 use Rattle.rows.specs.Setups.{setupOf, isSetup, sameSetup}
 use Rattle.rows.specs.declared.Setup.{Setup}
+use Rattle.rows.specs.Rows.{firstValues}
 use Rattle.observation.specs.declared.Observation.{Observation}
 use Rattle.observation.specs.declared.RecordAnswer.{RecordAnswer}
 use Rattle.observation.specs.Book.{smoothedNext, bookStep}
 use Rattle.observation.specs.Smoothing.{smoothedValue}
+use Rattle.observation.specs.Latest.{withLatest}
 use Rattle.observation.specs.Soundness.{noneAbove, allZero, isSound}
 use Rattle.observation.specs.Calls.{emptyRecord, freshRefusal, freshAnswer, bookAt, nextBook, withRow, rowChecks, addRowRefusal, addRowAnswer}
 
@@ -23,14 +25,32 @@ use Rattle.observation.specs.Calls.{emptyRecord, freshRefusal, freshAnsw
 abbrev only : ℕ → List ℕ
 only last = replicate 39 0 ++ (last ∷ [])
 
--- a record with the numbers of its last order
+-- a record with the numbers of its last order, whose latest rows are zeros
 abbrev observedUnder : ℕ → ℕ → ℕ → ℕ → ℕ → ℕ → Observation
 observedUnder edition system windows smoothed sum peak =
-    record { setup = setupOf system edition; windows = windows; smoothed = only smoothed; sum = only sum; peak = only peak }
+    record {
+      setup = setupOf system edition;
+      windows = windows;
+      smoothed = only smoothed;
+      sum = only sum;
+      peak = only peak;
+      latest = replicate 600 0;
+    }
 
 -- under edition 2
 abbrev observed : ℕ → ℕ → ℕ → ℕ → ℕ → Observation
 observed = observedUnder 0
+
+-- a record with other latest rows: of which a single value is not 0, and by the last value of each of the 15
+abbrev keeping : List ℕ → Observation → Observation
+keeping latest o =
+    record { setup = o .setup; windows = o .windows; smoothed = o .smoothed; sum = o .sum; peak = o .peak; latest = latest }
+
+abbrev single : ℕ → ℕ → List ℕ
+single place value = replicate place 0 ++ (value ∷ replicate (599 - place) 0)
+
+abbrev lasts : List ℕ → List ℕ
+lasts values = joined (map only values)
 
 -- a record, and whether it is sound
 abbrev records : List (Observation × Bool)
@@ -54,6 +74,16 @@ records =
     (observed 10 0 1 0 0, false) ∷
     (observed 10 0 0 1 0, false) ∷
     (observed 10 0 0 0 1, false) ∷
+    -- zeros where no row has come yet: from the place 40 × windows on
+    (keeping (single 0 1) (observed 10 0 0 0 0), false) ∷
+    (keeping (single 599 1) (observed 10 0 0 0 0), false) ∷
+    (keeping (single 39 1) (observed 10 1 0 0 0), true) ∷
+    (keeping (single 40 1) (observed 10 1 0 0 0), false) ∷
+    (keeping (single 559 4294967295) (observed 10 14 0 0 0), true) ∷
+    (keeping (single 560 1) (observed 10 14 0 0 0), false) ∷
+    (keeping (single 599 1) (observed 10 14 0 0 0), false) ∷
+    (keeping (single 599 4294967295) (observed 10 15 0 0 0), true) ∷
+    (keeping (single 0 1) (observed 10 45000 0 0 0), true) ∷
     []
 
 records-worked : map (λ c. isSound (c .0)) records ≡ map (λ c. c .1) records
@@ -109,16 +139,30 @@ refused observation system edition refusal =
       answered = record { refusal = refusal; observation = observation };
     }
 
+abbrev firstFourteen : List ℕ
+firstFourteen = 1 ∷ 2 ∷ 3 ∷ 4 ∷ 5 ∷ 6 ∷ 7 ∷ 8 ∷ 9 ∷ 10 ∷ 11 ∷ 12 ∷ 13 ∷ 14 ∷ 0 ∷ []
+
+abbrev fifteen : List ℕ
+fifteen = 1 ∷ 2 ∷ 3 ∷ 4 ∷ 5 ∷ 6 ∷ 7 ∷ 8 ∷ 9 ∷ 10 ∷ 11 ∷ 12 ∷ 13 ∷ 14 ∷ 15 ∷ []
+
 abbrev calls : List Call
 calls =
     -- the first row; later the smoothed value is 1000/8012 of 8944 and 7012/8012 of 5, to the nearest
-    taken (observed 10 0 0 0 0) (setupOf 10 0) (observed 10 1 8944 8944 8944) ∷
-    taken (observed 12 1 5 6 7) (setupOf 12 0) (observed 12 2 1121 1127 1121) ∷
-    taken (observedUnder 1 12 1 5 6 7) (setupOf 12 1) (observedUnder 1 12 2 1121 1127 1121) ∷
-    taken (observed 10 44999 5 6 9999) (setupOf 10 0) (observed 10 45000 1121 1127 9999) ∷
+    taken (observed 10 0 0 0 0) (setupOf 10 0) (keeping (single 39 8944) (observed 10 1 8944 8944 8944)) ∷
+    taken (observed 12 1 5 6 7) (setupOf 12 0) (keeping (single 79 8944) (observed 12 2 1121 1127 1121)) ∷
+    taken (observedUnder 1 12 1 5 6 7) (setupOf 12 1) (keeping (single 79 8944) (observedUnder 1 12 2 1121 1127 1121)) ∷
+    taken (observed 10 44999 5 6 9999) (setupOf 10 0) (keeping (single 599 8944) (observed 10 45000 1121 1127 9999)) ∷
+    -- the fifteenth row takes the last place, the sixteenth that of the first, and the one after it that of the second
+    taken (keeping (lasts firstFourteen) (observed 10 14 5 6 7)) (setupOf 10 0)
+    (keeping (lasts (1 ∷ 2 ∷ 3 ∷ 4 ∷ 5 ∷ 6 ∷ 7 ∷ 8 ∷ 9 ∷ 10 ∷ 11 ∷ 12 ∷ 13 ∷ 14 ∷ 8944 ∷ [])) (observed 10 15 1121 1127 1121)) ∷
+    taken (keeping (lasts fifteen) (observed 10 15 5 6 7)) (setupOf 10 0)
+    (keeping (lasts (8944 ∷ 2 ∷ 3 ∷ 4 ∷ 5 ∷ 6 ∷ 7 ∷ 8 ∷ 9 ∷ 10 ∷ 11 ∷ 12 ∷ 13 ∷ 14 ∷ 15 ∷ [])) (observed 10 16 1121 1127 1121)) ∷
+    taken (keeping (lasts fifteen) (observed 10 16 5 6 7)) (setupOf 10 0)
+    (keeping (lasts (1 ∷ 8944 ∷ 3 ∷ 4 ∷ 5 ∷ 6 ∷ 7 ∷ 8 ∷ 9 ∷ 10 ∷ 11 ∷ 12 ∷ 13 ∷ 14 ∷ 15 ∷ [])) (observed 10 17 1121 1127 1121)) ∷
     -- each fault; 8 by the system, by the edition, and by both
     refused (observed 10 0 5 6 7) 10 0 7 ∷
     refused (observed 10 45001 5 6 7) 10 0 7 ∷
+    refused (keeping (single 40 1) (observed 10 1 5 6 7)) 10 0 7 ∷
     refused (observedUnder 2 10 1 5 6 7) 10 0 7 ∷
     refused (observed 10 1 5 6 7) 11 0 1 ∷
     refused (observed 10 1 5 6 7) 10 2 19 ∷
@@ -128,8 +172,10 @@ calls =
     refused (observedUnder 1 10 1 5 6 7) 10 0 8 ∷
     refused (observedUnder 1 10 1 5 6 7) 12 0 8 ∷
     refused (observed 10 45000 5 6 7) 10 0 9 ∷
+    refused (keeping (lasts fifteen) (observed 10 15 5 6 7)) 12 0 8 ∷
     -- two faults: 7 before 1, 1 before 19, 19 before 8, 8 before 9; and 7 before 19, 1 before 8
     refused (observed 11 1 5 6 7) 11 0 7 ∷
+    refused (keeping (single 40 1) (observed 10 1 5 6 7)) 11 0 7 ∷
     refused (observedUnder 2 10 1 5 6 7) 10 2 7 ∷
     refused (observed 10 1 5 6 7) 9 2 1 ∷
     refused (observed 10 1 5 6 7) 9 1 1 ∷
@@ -140,5 +186,5 @@ calls =
 
 calls-worked : map (λ c. addRowAnswer (c .observation) (record { setup = c .setup; values = only 8944 })) calls
     ≡ map (λ c. c .answered) calls
-unfolding addRowAnswer addRowRefusal rowChecks sameSetup isSound isSetup isSystem isEdition noneAbove allZero anyOf withRow tabulate nextBook bookAt bookStep smoothedNext smoothedValue nearest
+unfolding addRowAnswer addRowRefusal rowChecks sameSetup isSound isSetup isSystem isEdition noneAbove allZero anyOf withRow withLatest firstValues joined tabulate nextBook bookAt bookStep smoothedNext smoothedValue nearest
 calls-worked = refl

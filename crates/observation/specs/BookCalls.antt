@@ -5,6 +5,7 @@ use mathlib.Core.List.{List, [], _∷_, map}
 use Prim.Native.Nat.{ℕ, _+_}
 use lib.Dec.{eqb}
 use lib.ListN.{getD}
+use Rattle.algebra.specs.Weighted.{Everywhere}
 use Rattle.refusals.specs.Numbers.{noRefusal}
 use Rattle.refusals.specs.Answers.{firstFault}
 use Rattle.rows.specs.declared.Row.{Row}
@@ -16,14 +17,19 @@ use Rattle.observation.specs.Calls.{rowChecks}
 
 -- a row that a book with this setup and count accepts: the refusal table's "add row" doesn't turn it away
 unfoldable pub accepts : Setup → ℕ → Row → Bool
-accepts setup count row = eqb (firstFault (rowChecks setup count row)) noRefusal
+accepts setup count row = eqb (firstFault (rowChecks setup count (row .setup))) noRefusal
+
+-- the calls of a list whose rows a book with this count accepts, in turn
+module _ {A : Type 0} (rowOf : A → Row) (taken : ℕ → Row → Bool) where
+  unfoldable pub acceptedCalls : ℕ → List A → List A
+  acceptedCalls count [] = []
+  acceptedCalls count (call ∷ calls) =
+      cond (taken count (rowOf call)) (call ∷ acceptedCalls (count + 1) calls) (acceptedCalls count calls)
 
 -- each call of a list whose row a book with this count accepts meets a condition
 module _ {A : Type 0} (rowOf : A → Row) (condition : A → Type 0) (taken : ℕ → Row → Bool) where
-  unfoldable pub EachAccepted : ℕ → List A → Type 0
-  EachAccepted count [] = Unit {0}
-  EachAccepted count (call ∷ calls) =
-      cond (taken count (rowOf call)) (condition call × EachAccepted (count + 1) calls) (EachAccepted count calls)
+  abbrev pub EachAccepted : ℕ → List A → Type 0
+  EachAccepted count calls = Everywhere condition (acceptedCalls rowOf taken count calls)
 
 module _ (𝓝 : Numbers) where
   -- what a book is fed at a call: the row and, where it accepts the row, a value

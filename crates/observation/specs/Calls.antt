@@ -1,4 +1,4 @@
--- What the calls `fresh_record` and `add_row` answer (document 01, "The observation record" and the refusal table's rows of these names; document 02, card 7, for the edition).
+-- What the calls `fresh_record` and `add_row` answer (document 01, "The observation record" and the refusal table's rows of these names; document 02, card 7, for the edition, and card 8, for the latest rows).
 use mathlib.Core.Bool.{Bool, not}
 use mathlib.Core.List.{List, [], _∷_, _++_}
 use Prim.Native.Nat.{ℕ, _+_}
@@ -15,6 +15,7 @@ use Rattle.observation.specs.declared.Observation.{Observation}
 use Rattle.observation.specs.declared.RecordAnswer.{RecordAnswer}
 use Rattle.observation.specs.Book.{Book, bookStep}
 use Rattle.observation.specs.Smoothing.{reported}
+use Rattle.observation.specs.Latest.{valuesKept, withLatest}
 use Rattle.observation.specs.Soundness.{isSound, mostWindows}
 
 -- a record of a setup with zeros
@@ -26,6 +27,7 @@ emptyRecord setup =
       smoothed = replicate orderCount 0;
       sum = replicate orderCount 0;
       peak = replicate orderCount 0;
+      latest = replicate valuesKept 0;
     }
 
 -- a refused fresh record: system 10, edition 2, zeros
@@ -60,7 +62,7 @@ bookAt o i =
 unfoldable pub nextBook : Observation → Row → ℕ → Book reported
 nextBook o row i = bookStep reported (bookAt o i) (getD (row .values) i 0)
 
--- the record with a row added: each order's book takes its step
+-- the record with a row added: each order's book takes its step, and the row is the latest of those kept
 unfoldable pub withRow : Observation → Row → Observation
 withRow o row =
     record {
@@ -69,19 +71,20 @@ withRow o row =
       smoothed = tabulate orderCount (λ i. nextBook o row i .smoothed);
       sum = tabulate orderCount (λ i. nextBook o row i .sum);
       peak = tabulate orderCount (λ i. nextBook o row i .peak);
+      latest = withLatest (o .windows) (row .values) (o .latest);
     }
 
--- what a book with this setup and count turns away: 1 the row's system not 10 or 12; 19 its edition not 0 or 1; 8 one of the two differs from the record's; 9 45,000 windows held
-unfoldable pub rowChecks : Setup → ℕ → Row → List (Bool × ℕ)
-rowChecks setup count row =
-    setupChecks (row .setup) ++
-    (not (sameSetup (row .setup) setup), otherSetup) ∷
+-- what a book with its own setup and count turns away, by the row's setup: 1 the row's system not 10 or 12; 19 its edition not 0 or 1; 8 one of the two differs from the record's; 9 45,000 windows held
+unfoldable pub rowChecks : Setup → ℕ → Setup → List (Bool × ℕ)
+rowChecks own count setup =
+    setupChecks setup ++
+    (not (sameSetup setup own), otherSetup) ∷
     (leb mostWindows count, recordFull) ∷
     []
 
 -- 7 record not sound comes before these
 abbrev pub addRowChecks : Observation → Row → List (Bool × ℕ)
-addRowChecks o row = (not (isSound o), unsoundRecord) ∷ rowChecks (o .setup) (o .windows) row
+addRowChecks o row = (not (isSound o), unsoundRecord) ∷ rowChecks (o .setup) (o .windows) (row .setup)
 
 unfoldable pub addRowRefusal : Observation → Row → ℕ
 addRowRefusal o row = firstFault (addRowChecks o row)

@@ -1,9 +1,11 @@
--- Which records are sound (document 01, "The observation record"; document 02, card 7, for the edition).
+-- Which records are sound (document 01, "The observation record"; document 02, card 7, for the edition, and card 8, for the latest rows).
 use mathlib.Core.Bool.{Bool, not, _||_}
 use mathlib.Core.List.{List, [], _∷_}
 use Prim.Native.Nat.{ℕ, _*_}
 use lib.Dec.{eqb, leb, ltb}
+use lib.ListN.{drop}
 use Rattle.algebra.specs.Lists.{anyOf, allTrue}
+use Rattle.rows.specs.Orders.{orderCount}
 use Rattle.rows.specs.Rows.{largestValue}
 use Rattle.rows.specs.Setups.{isSetup}
 use Rattle.observation.specs.declared.Observation.{Observation}
@@ -16,14 +18,14 @@ mostWindows = 45000
 unfoldable pub noneAbove : ℕ → List ℕ → Bool
 noneAbove bound values = not (anyOf (ltb bound) values)
 
--- all of the record's 120 numbers are 0
-abbrev pub zeroTests : Observation → List Bool
-zeroTests o = noneAbove 0 (o .smoothed) ∷ noneAbove 0 (o .sum) ∷ noneAbove 0 (o .peak) ∷ []
+-- all smoothed values, sums and peaks are 0
+abbrev pub zeroTests : List ℕ → List ℕ → List ℕ → List Bool
+zeroTests smoothed sum peak = noneAbove 0 smoothed ∷ noneAbove 0 sum ∷ noneAbove 0 peak ∷ []
 
-unfoldable pub allZero : Observation → Bool
-allZero o = allTrue (zeroTests o)
+unfoldable pub allZero : List ℕ → List ℕ → List ℕ → Bool
+allZero smoothed sum peak = allTrue (zeroTests smoothed sum peak)
 
--- its system is 10 or 12 and its edition 0 or 1, n is at most 45,000, no sum is above n×(2^32−1), no peak or smoothed value above 2^32−1, and n = 0 means zeros
+-- its system is 10 or 12 and its edition 0 or 1, n is at most 45,000, no sum is above n×(2^32−1), no peak or smoothed value above 2^32−1, n = 0 means zeros, and the latest rows hold "zeros where none has come yet": from the place of the n-th row on
 abbrev pub soundTests : Observation → List Bool
 soundTests o =
     isSetup (o .setup) ∷
@@ -31,7 +33,8 @@ soundTests o =
     noneAbove (o .windows * largestValue) (o .sum) ∷
     noneAbove largestValue (o .peak) ∷
     noneAbove largestValue (o .smoothed) ∷
-    (not (eqb (o .windows) 0) || allZero o) ∷
+    (not (eqb (o .windows) 0) || allZero (o .smoothed) (o .sum) (o .peak)) ∷
+    noneAbove 0 (drop (o .windows * orderCount) (o .latest)) ∷
     []
 
 unfoldable pub isSound : Observation → Bool

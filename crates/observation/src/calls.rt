@@ -1,8 +1,10 @@
 // The calls that make a record and add a row to it.
 use crate::Observation;
 use crate::RecordAnswer;
+use crate::VALUES_KEPT;
 use crate::book::OrderBook;
 use crate::book::book_step;
+use crate::latest_rows::put_row;
 use crate::soundness::MOST_WINDOWS;
 use crate::soundness::is_sound;
 use refusals::NO_REFUSAL;
@@ -17,8 +19,11 @@ use rows::refused_setup;
 use rows::same_setup;
 use rows::setup_fault_or;
 ghost use mathlib.Core.Path.{_≡_};
-ghost use Rattle.refusals.specs.Numbers.{noRefusal};
-ghost use Rattle.observation.specs.Calls.{emptyRecord, freshAnswer, withRow, addRowRefusal, addRowAnswer};
+ghost use mathlib.Core.Bool.{not};
+ghost use mathlib.Core.List.{_∷_};
+ghost use Rattle.refusals.specs.Numbers.{noRefusal, unsoundRecord};
+ghost use Rattle.refusals.specs.Answers.{firstFault};
+ghost use Rattle.observation.specs.Calls.{emptyRecord, freshAnswer, withRow, rowChecks, addRowRefusal, addRowAnswer};
 
 // A record of a setup with zeros.
 fn empty_record(setup: Setup) -> Observation
@@ -30,6 +35,7 @@ fn empty_record(setup: Setup) -> Observation
         smoothed: [0; ORDER_COUNT],
         sum: [0; ORDER_COUNT],
         peak: [0; ORDER_COUNT],
+        latest: [0; VALUES_KEPT],
     }
 }
 
@@ -50,20 +56,19 @@ pub fn fresh_record(setup: Setup) -> RecordAnswer
     }
 }
 
-// The checks of add_row, in order: 7 record not sound, 1 unknown system, 19 unknown edition, 8 another
-// setup than the record's, 9 record full.
-fn add_row_refusal(observation: Observation, row: Row) -> u32
-    ensures { λ r. ⌜ r ≡ addRowRefusal observation row ⌝ }
+// The checks of a row against a record that is sound or not, in order: 7 record not sound, 1 unknown
+// system, 19 unknown edition, 8 another setup than the record's, 9 record full.
+fn row_refusal(sound: bool, own: Setup, windows: u32, setup: Setup) -> u32
+    ensures { λ r. ⌜ r ≡ firstFault ((not sound, unsoundRecord) ∷ rowChecks own windows setup) ⌝ }
 {
-    let setup = row.setup;
-    let other = !same_setup(setup, observation.setup);
-    let full = MOST_WINDOWS <= observation.windows;
+    let other = !same_setup(setup, own);
+    let full = MOST_WINDOWS <= windows;
     let rest = fault_or(other, OTHER_SETUP, fault_or(full, RECORD_FULL, NO_REFUSAL));
     let setup_and_rest = setup_fault_or(setup, rest);
-    fault_or(!is_sound(observation), UNSOUND_RECORD, setup_and_rest)
+    fault_or(!sound, UNSOUND_RECORD, setup_and_rest)
 }
 
-// The record with a row added: the book of each order takes its step.
+// The record with a row added: the book of each order takes its step, and the row is the latest.
 fn with_row(observation: Observation, row: Row) -> Observation
     requires { ⌜ addRowRefusal observation row ≡ noRefusal ⌝ }
     ensures { λ r. ⌜ r ≡ withRow observation row ⌝ }
@@ -90,6 +95,8 @@ fn with_row(observation: Observation, row: Row) -> Observation
         peak[i] = next.peak;
         i += 1;
     }
+    let mut latest = observation.latest;
+    put_row(&mut latest, windows, &row.values);
     let windows = windows + 1;
     let setup = observation.setup;
     Observation {
@@ -98,6 +105,7 @@ fn with_row(observation: Observation, row: Row) -> Observation
         smoothed,
         sum,
         peak,
+        latest,
     }
 }
 
@@ -105,7 +113,15 @@ fn with_row(observation: Observation, row: Row) -> Observation
 pub fn add_row(observation: Observation, row: Row) -> RecordAnswer
     ensures { λ r. ⌜ r ≡ addRowAnswer observation row ⌝ }
 {
-    let refusal = add_row_refusal(observation, row);
+    let sound = is_sound(
+        observation.setup,
+        observation.windows,
+        &observation.smoothed,
+        &observation.sum,
+        &observation.peak,
+        &observation.latest,
+    );
+    let refusal = row_refusal(sound, observation.setup, observation.windows, row.setup);
     if refusal != NO_REFUSAL {
         return RecordAnswer {
             refusal,

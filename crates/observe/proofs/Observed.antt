@@ -34,7 +34,7 @@ use Rattle.observation.proofs.RecordBooks.{answer-setup}
 use Rattle.groups.specs.Group.{groupRowRefusal, windowRow}
 use Rattle.groups.proofs.GroupSum.{windowRow-fits, windowRow-setup}
 use Rattle.observe.specs.Observe.{windowStart, windowRows, addWindowChecks, observeChecks, observeRefusal, observeAnswer}
-use Rattle.observe.specs.Calls.{lentLines, windowCalls, callsAfter}
+use Rattle.observe.specs.Calls.{lentLines, rowCalls, windowCalls, callsAfter}
 use Rattle.observe.proofs.WindowCalls.{spectrumRefusal-lent, groupRowRefusal-window, windowCalls-answered}
 
 module _ (setup : Setup) (recording : List ℤ) (start : ℕ) where
@@ -145,6 +145,24 @@ module _ (kind : Kind) (setup : Setup) (recording : List ℤ) (start : ℕ) wher
             held = λ e. absurd (f e);
           })
 
+  -- the calls for one window more, after windows that are not refused: those for its row, and the row added
+  pub calls-next :
+      (n : ℕ) →
+      let o = callsAfter kind setup recording start n .observation in
+      let answer = rowCalls kind setup recording (windowStart start n) in
+      callsAfter kind setup recording start n .refusal ≡ noRefusal →
+      callsAfter kind setup recording start (suc n)
+      ≡ unlessRefused (answer .refusal) (addRowAnswer o (answer .row)) (record { refusal = answer .refusal; observation = o })
+  unfolding callsAfter windowCalls
+  calls-next n none =
+      let o = callsAfter kind setup recording start n .observation in
+      rw none
+      (ap
+      (λ (own : Setup).
+      let answer = rowCalls kind own recording (windowStart start n) in
+      unlessRefused (answer .refusal) (addRowAnswer o (answer .row)) (record { refusal = answer .refusal; observation = o }))
+      (calls-follow n .held none .setup-is))
+
   -- a refused call is the last
   callsAfter-stops :
       (k n : ℕ) → (callsAfter kind setup recording start n .refusal ≡ noRefusal → ⊥) →
@@ -171,9 +189,9 @@ module _ (kind : Kind) (setup : Setup) (recording : List ℤ) (start : ℕ) wher
       (unlessRefused-same _ _ _ refusedRecord (λ e. sym (follows .held e .record-is))))
 
   pub observeAnswer-accepted :
-      (n : ℕ) (o : Observation) → callsAfter kind setup recording start n ≡ record { refusal = noRefusal; observation = o } →
-      observeAnswer kind setup recording start n ≡ record { refusal = noRefusal; observation = o }
-  observeAnswer-accepted n o e = observeAnswer-calls n ∙ rw e
+      (n : ℕ) (answer : RecordAnswer) → callsAfter kind setup recording start n ≡ answer → answer .refusal ≡ noRefusal →
+      observeAnswer kind setup recording start n ≡ answer
+  observeAnswer-accepted n answer e none = observeAnswer-calls n ∙ rw (e, unlessRefused-accepted (answer .refusal) (answer .observation) refusedRecord none)
 
   pub observeAnswer-refused :
       (k n : ℕ) → (callsAfter kind setup recording start n .refusal ≡ noRefusal → ⊥) →

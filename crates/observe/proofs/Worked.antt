@@ -17,6 +17,7 @@ use Rattle.rows.specs.Systems.{isSystem}
 use Rattle.rows.specs.Editions.{isEdition}
 use Rattle.rows.specs.Setups.{setupOf, isSetup, sameSetup}
 use Rattle.rows.specs.declared.Setup.{Setup}
+use Rattle.rows.specs.Rows.{firstValues}
 use Rattle.spectrum.specs.Line.{windowAt, linesOf}
 use Rattle.spectrum.specs.Spectrum.{outOfRange}
 use Rattle.spectrum.proofs.Pulse.{pulse, pulse-lines, silence, silence-lines}
@@ -27,12 +28,13 @@ use Rattle.groups.specs.Group.{groupRefusal, valueOver, groupValue, groupAnswer
 use Rattle.observation.specs.declared.Observation.{Observation}
 use Rattle.observation.specs.Book.{smoothedNext, bookStep}
 use Rattle.observation.specs.Smoothing.{smoothedValue}
+use Rattle.observation.specs.Latest.{withLatest}
 use Rattle.observation.specs.Soundness.{noneAbove, allZero, isSound}
 use Rattle.observation.specs.Calls.{emptyRecord, bookAt, nextBook, withRow, rowChecks, addRowRefusal, addRowAnswer}
 use Rattle.observation.specs.RecordAfter.{recordAfter}
 use Rattle.observe.specs.Observe.{windowRows, addWindowChecks, observeChecks, observeRefusal, observeAnswer}
 
--- a record under edition 2 whose orders are alike
+-- a record under edition 2 whose orders are alike, and whose first row alone is not zeros and has the peak
 abbrev alike : ℕ → ℕ → ℕ → ℕ → ℕ → Observation
 alike system windows smoothed sum peak =
     record {
@@ -41,6 +43,7 @@ alike system windows smoothed sum peak =
       smoothed = replicate 40 smoothed;
       sum = replicate 40 sum;
       peak = replicate 40 peak;
+      latest = replicate 40 peak ++ replicate 560 0;
     }
 
 -- ---- refusals
@@ -175,13 +178,21 @@ rows-of-one = rw (windows-of .0, subgroup-row, a1-row) (refl, refl)
 
 -- under A1, after one row
 abbrev recordUnderA1 : Observation
-recordUnderA1 = record { setup = setupOf 12 1; windows = 1; smoothed = underA1; sum = underA1; peak = underA1 }
+recordUnderA1 =
+    record {
+      setup = setupOf 12 1;
+      windows = 1;
+      smoothed = underA1;
+      sum = underA1;
+      peak = underA1;
+      latest = underA1 ++ replicate 560 0;
+    }
 
 records-of :
     (recordAfter (emptyRecord (setupOf 10 0)) (rowOf 10 0 (replicate 40 8944) ∷ rowOf 10 0 (replicate 40 0) ∷ []) ≡ alike 10 2 7828 16772 8944)
     × (recordAfter (emptyRecord (setupOf 12 0)) (rowOf 12 0 (replicate 40 4898) ∷ []) ≡ alike 12 1 4898 4898 4898)
     × (recordAfter (emptyRecord (setupOf 12 1)) (rowOf 12 1 underA1 ∷ []) ≡ recordUnderA1)
-unfolding recordAfter addRowAnswer addRowRefusal rowChecks sameSetup isSound isSetup isSystem isEdition noneAbove allZero anyOf emptyRecord withRow tabulate nextBook bookAt bookStep smoothedNext smoothedValue nearest
+unfolding recordAfter addRowAnswer addRowRefusal rowChecks sameSetup isSound isSetup isSystem isEdition noneAbove allZero anyOf emptyRecord withRow withLatest firstValues tabulate nextBook bookAt bookStep smoothedNext smoothedValue nearest
 records-of = (refl, refl, refl)
 
 passed :

@@ -2,7 +2,6 @@
 // make in turn. The first call that is refused decides.
 use groups::Kind;
 use groups::group_row;
-use observation::Observation;
 use observation::RecordAnswer;
 use observation::add_row;
 use observation::fresh_record;
@@ -17,7 +16,7 @@ use spectrum::spectrum;
 ghost use mathlib.Core.Path.{_≡_};
 ghost use Rattle.observation.specs.Calls.{refusedRecord};
 ghost use Rattle.observe.specs.Observe.{observeAnswer};
-ghost use Rattle.observe.specs.Calls.{rowCalls, windowCalls};
+ghost use Rattle.observe.specs.Calls.{rowCalls};
 
 // The row of the window that begins at `at`.
 fn row_at(recording: &[i32], at: usize, setup: Setup, kind: Kind) -> RowAnswer
@@ -32,23 +31,6 @@ fn row_at(recording: &[i32], at: usize, setup: Setup, kind: Kind) -> RowAnswer
         };
     }
     group_row(kind, setup, &lines)
-}
-
-// The record with that row added, or the refusal with the record unchanged.
-fn add_window(observation: Observation, recording: &[i32], at: usize, kind: Kind) -> RecordAnswer
-    ensures { λ r. ⌜ r ≡ windowCalls kind (now (recording .entry)) at observation ⌝ }
-{
-    let setup = observation.setup;
-    let answer = row_at(recording, at, setup, kind);
-    let refusal = answer.refusal;
-    let row = answer.row;
-    if refusal != NO_REFUSAL {
-        return RecordAnswer {
-            refusal,
-            observation,
-        };
-    }
-    add_row(observation, row)
 }
 
 // A refusal with the record of a refused fresh_record.
@@ -75,24 +57,23 @@ pub fn observe(
 ) -> RecordAnswer
     ensures { λ r. ⌜ r ≡ observeAnswer kind setup (now (recording .entry)) start windows ⌝ }
 {
-    let fresh = fresh_record(setup);
-    if fresh.refusal != NO_REFUSAL {
-        return fresh;
+    let mut answer = fresh_record(setup);
+    if answer.refusal != NO_REFUSAL {
+        return answer;
     }
-    let mut after = fresh.observation;
     let mut at = start;
     let mut i = 0;
     while i < windows {
-        let answer = add_window(after, recording, at, kind);
+        let found = row_at(recording, at, setup, kind);
+        if found.refusal != NO_REFUSAL {
+            return refused_record(found.refusal);
+        }
+        answer = add_row(answer.observation, found.row);
         if answer.refusal != NO_REFUSAL {
             return refused_record(answer.refusal);
         }
-        after = answer.observation;
         at += WINDOW_LENGTH;
         i += 1;
     }
-    RecordAnswer {
-        refusal: NO_REFUSAL,
-        observation: after,
-    }
+    answer
 }

@@ -1,7 +1,7 @@
 -- A record and its words determine each other, and the record that is read of some words is the one that they hold, or neither is sound.
 use mathlib.Core.Path.{_≡_, refl, sym, ap, _∙_}
 use mathlib.Core.Bool.{Bool, true, false}
-use mathlib.Core.List.{List, [], _∷_, _++_, append-assoc, append-nil}
+use mathlib.Core.List.{List, [], _∷_, _++_, map, append-assoc, append-nil}
 use Prim.Native.Nat.{ℕ, min, _+_, _<_}
 use native.Mathlib.Nat.{le-of-eq}
 use native.Mathlib.Omega.{arith}
@@ -16,32 +16,67 @@ use Rattle.rows.proofs.Systems.{system-bounds}
 use Rattle.rows.proofs.Editions.{edition-le}
 use Rattle.rows.proofs.Setups.{setup-parts}
 use Rattle.observation.specs.declared.Observation.{Observation}
+use Rattle.observation.specs.Latest.{valuesKept}
 use Rattle.observation.specs.Soundness.{isSound}
 use Rattle.observation.proofs.SoundRecord.{sound-parts}
 use Rattle.exported_answers.specs.LentWords.{wordsFrom}
+use Rattle.exported_answers.proofs.LentWords.{wordsFrom-length}
 use Rattle.record_words.specs.Parts.{partsFrom, total}
-use Rattle.record_words.specs.Words.{recordParts, recordWords, smoothedPlace, partsOf, ofParts, wordsOf, recordOf, recordRead, Whole, wordsWith}
+use Rattle.record_words.specs.Halves.{packed}
+use Rattle.record_words.specs.Words.{latestWords, recordParts, recordWords, smoothedPlace, latestPlace, partsOf, ofParts, wordsOf, recordOf, recordRead, Whole, wordsWith}
+use Rattle.record_words.proofs.Halves.{unpacked-length, packed-unpacked, unpacked-packed}
 use Rattle.record_words.proofs.Parts.{joined-length, partsFrom-joined, joined-partsFrom}
 
--- 123 words are those of the record that they hold
-pub words-of-record : (words : List ℕ) → length words ≡ recordWords → wordsOf (recordOf words) ≡ words
-unfolding wordsOf recordOf ofParts partsOf partsFrom wordsFrom tabulate
-words-of-record words whole =
-    joined-partsFrom 0 recordParts words (omega arith) ∙ take-all recordWords words (le-of-eq whole)
+-- a part of one word
+one-word : (place : ℕ) (words : List ℕ) → getD (wordsFrom place 1 words) 0 0 ∷ [] ≡ wordsFrom place 1 words
+unfolding wordsFrom tabulate
+one-word place words = refl
 
--- a record is the one that its words hold
+-- the parts of the record that some words hold are the parts of these words
+parts-of-record : (words : List ℕ) → partsOf (recordOf words) ≡ partsFrom 0 recordParts words
+unfolding recordOf ofParts partsOf partsFrom
+parts-of-record words =
+    rw (
+      one-word 0 words,
+      one-word 1 words,
+      one-word 2 words,
+      packed-unpacked (wordsFrom latestPlace latestWords words),
+    )
+
+-- 423 words are those of the record that they hold
+pub words-of-record : (words : List ℕ) → length words ≡ recordWords → wordsOf (recordOf words) ≡ words
+unfolding wordsOf
+words-of-record words whole =
+    rw (parts-of-record words)
+    (joined-partsFrom 0 recordParts words (omega arith) ∙ take-all recordWords words (le-of-eq whole))
+
+-- its latest rows have their count of values
+pub latest-of-record : (words : List ℕ) → length (recordOf words .latest) ≡ valuesKept
+unfolding recordOf ofParts partsFrom
+latest-of-record words =
+    omega (arith, unpacked-length (wordsFrom latestPlace latestWords words), wordsFrom-length latestPlace latestWords words)
+
+-- a record is the one of its parts
+of-parts : (o : Observation) → Whole o → ofParts (λ word. word) (partsOf o) ≡ o
+unfolding ofParts partsOf
+of-parts o whole = rw (unpacked-packed (o .latest) latestWords (whole .latest) (whole .latest-fit))
+
+-- and the one that its words hold
 pub record-of-words : (o : Observation) → Whole o → recordOf (wordsOf o) ≡ o
-unfolding wordsOf recordOf Whole ofParts partsOf
-record-of-words o whole = rw (← whole, partsFrom-joined [] (partsOf o))
+unfolding wordsOf recordOf ofParts
+record-of-words o whole =
+    rw (← whole .parts, partsFrom-joined [] (partsOf o)) (of-parts o whole)
 
 -- its words are its parts, each put after those before it
-pub wordsOf-parts : (o : Observation) → (o .setup .system ∷ o .setup .edition ∷ o .windows ∷ []) ++ o .smoothed ++ o .sum ++ o .peak ≡ wordsOf o
+pub wordsOf-parts :
+    (o : Observation) →
+    (o .setup .system ∷ o .setup .edition ∷ o .windows ∷ []) ++ o .smoothed ++ o .sum ++ o .peak ++ packed (o .latest) ≡ wordsOf o
 unfolding wordsOf partsOf joined
 wordsOf-parts o = simp (append-assoc, append-nil)
 
-pub wordsOf-length : (o : Observation) → Whole o → length (wordsOf o) ≡ recordWords
-unfolding wordsOf Whole
-wordsOf-length o whole = joined-length (partsOf o) ∙ ap total whole
+pub wordsOf-length : (o : Observation) → map length (partsOf o) ≡ recordParts → length (wordsOf o) ≡ recordWords
+unfolding wordsOf
+wordsOf-length o parts = joined-length (partsOf o) ∙ ap total parts
 
 -- the word of a smoothed value
 pub smoothed-word :
@@ -54,7 +89,7 @@ smoothed-word o i whole inside =
     sym (getD-tabulate orderCount (λ k. getD (wordsOf o) (smoothedPlace + k) 0) i 0 inside) ∙
     ap (λ (held : Observation). getD (held .smoothed) i 0) (record-of-words o whole)
 
--- 123 words after a record is put into them
+-- 423 words after a record is put into them
 pub wordsWith-whole : (o : Observation) (words : List ℕ) → length words ≡ recordWords → wordsWith o words ≡ wordsOf o
 unfolding wordsWith
 wordsWith-whole o words whole = rw (eq-eqb (length words) recordWords whole)

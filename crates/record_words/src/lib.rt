@@ -4,6 +4,7 @@
 mod reading;
 mod writing;
 
+use observation::VALUES_KEPT;
 pub use reading::read_record;
 use rows::ORDER_COUNT;
 pub use writing::hand_over_record;
@@ -20,5 +21,13 @@ const SMOOTHED_PLACE: usize = WINDOWS_PLACE + 1;
 const SUM_PLACE: usize = SMOOTHED_PLACE + ORDER_COUNT;
 
 const PEAK_PLACE: usize = SUM_PLACE + ORDER_COUNT;
+
+const LATEST_PLACE: usize = PEAK_PLACE + ORDER_COUNT;
+
+// The latest rows stand two values in a word.
+const LATEST_WORDS: usize = VALUES_KEPT / 2;
 // The words of a record.
-pub const RECORD_WORDS: usize = PEAK_PLACE + ORDER_COUNT;
+pub const RECORD_WORDS: usize = LATEST_PLACE + LATEST_WORDS;
+
+// One more than the largest number of 32 bits: what the upper half of a word counts.
+const HALF_BASE: u64 = 4_294_967_296;

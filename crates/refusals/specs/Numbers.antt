@@ -72,3 +72,7 @@ unknownClass = 15
 -- edition not 0 or 1 (document 02, card 7)
 abbrev pub unknownEdition : ℕ
 unknownEdition = 19
+
+-- fewer than 15 windows (document 02, card 8)
+abbrev pub tooFewWindows : ℕ
+tooFewWindows = 20

@@ -40,6 +40,8 @@ pub const LARGEST_REFUSAL: u32 = WRONG_BUFFER_LENGTH;
 pub const UNKNOWN_CLASS: u32 = 15;
 // The edition is neither 0 (edition 2) nor 1 (A1).
 pub const UNKNOWN_EDITION: u32 = 19;
+// The record holds fewer than 15 windows.
+pub const TOO_FEW_WINDOWS: u32 = 20;
 
 // What a public call answers: NO_REFUSAL with the value, or a refusal's number with 0.
 pub struct Answer {

@@ -34,7 +34,14 @@ only order value = set (replicate 40 0) (order - 1) value
 -- a record of some windows with the sum and the peak of one order
 observed : ℕ → ℕ → ℕ → ℕ → Observation
 observed windows order sum peak =
-    record { setup = setupOf 10 0; windows = windows; smoothed = only order peak; sum = only order sum; peak = only order peak }
+    record {
+      setup = setupOf 10 0;
+      windows = windows;
+      smoothed = only order peak;
+      sum = only order sum;
+      peak = only order peak;
+      latest = replicate 600 0;
+    }
 
 -- one window with a value at one order
 oneWindow : ℕ → ℕ → Observation

@@ -3,6 +3,7 @@ use mathlib.Core.Bool.{Bool, cond, not, _&&_, _||_}
 use mathlib.Core.List.{List, [], _∷_}
 use Prim.Native.Nat.{ℕ}
 use lib.Dec.{eqb}
+use Rattle.algebra.specs.Fraction.{Fraction}
 use Rattle.refusals.specs.Numbers.{noRefusal, unsoundRecord, noWindow, scaleOutOfRange}
 use Rattle.refusals.specs.Answers.{firstFault, unlessRefused}
 use Rattle.observation.specs.declared.Observation.{Observation}
@@ -28,29 +29,36 @@ combined average limit peak peakLimit order =
     cond (isOver average limit || isOver peak peakLimit) (Over order)
     (cond (isWithin average limit && isWithin peak peakLimit) (Within order) (Close order))
 
--- "the average (sum/n) against the limit, the peak against 150 % of it", in a class
-unfoldable pub verdictIn : Class → Observation → ℕ → ℕ → Verdict
-verdictIn class o order scale =
+-- an average "against the limit", a peak "against 150 % of it", in a class
+abbrev pub judged : Class → Fraction → Fraction → ℕ → ℕ → Verdict
+judged class average peak order scale =
     combined
-    (parts (averageOf o order))
+    (parts average)
     (parts (limitInUnits class order scale))
-    (parts (peakOf o order))
+    (parts peak)
     (parts (peakLimitInUnits class order scale))
     order
+
+-- the average (sum/n) and the peak of the order in a record
+unfoldable pub verdictIn : Class → Observation → ℕ → ℕ → Verdict
+verdictIn class o order scale = judged class (averageOf o order) (peakOf o order) order scale
 
 -- the verdict of what is asked, in the class that the letter names
 abbrev pub verdictOf : Observation → Question → Verdict
 verdictOf o q = verdictIn (classWith (q .letter)) o (q .order) (q .scale)
 
--- 7 record not sound; 10 no window yet; 6 order outside 2..40; 15 class letter other than A or B, "tested after the order and before K"; 11 K outside 1..2^28
-abbrev pub verdictChecks : Observation → Question → List (Bool × ℕ)
-verdictChecks o q =
-    (not (isSound o), unsoundRecord) ∷
-    (eqb (o .windows) 0, noWindow) ∷
+-- 10 no window yet; 6 order outside 2..40; 15 class letter other than A or B, "tested after the order and before K"; 11 K outside 1..2^28
+abbrev pub questionChecks : ℕ → Question → List (Bool × ℕ)
+questionChecks windows q =
+    (eqb windows 0, noWindow) ∷
     limitedOrderCheck (q .order) ∷
     classCheck (q .letter) ∷
     (not (isScale (q .scale)), scaleOutOfRange) ∷
     []
+
+-- 7 record not sound comes before these
+abbrev pub verdictChecks : Observation → Question → List (Bool × ℕ)
+verdictChecks o q = (not (isSound o), unsoundRecord) ∷ questionChecks (o .windows) q
 
 unfoldable pub verdictRefusal : Observation → Question → ℕ
 verdictRefusal o q = firstFault (verdictChecks o q)

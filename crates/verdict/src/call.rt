@@ -20,24 +20,29 @@ use refusals::SCALE_OUT_OF_RANGE;
 use refusals::UNKNOWN_CLASS;
 use refusals::UNSOUND_RECORD;
 use refusals::fault_or;
-ghost use mathlib.Core.Bool.{true};
+ghost use mathlib.Core.Bool.{true, not};
+ghost use mathlib.Core.List.{_∷_};
 ghost use mathlib.Core.Path.{_≡_};
 ghost use Prim.Native.Nat.{_<_};
+ghost use Rattle.algebra.specs.Fraction.{whole};
+ghost use Rattle.refusals.specs.Numbers.{unsoundRecord};
+ghost use Rattle.refusals.specs.Answers.{firstFault};
+ghost use Rattle.observation.specs.Average.{average};
 ghost use Rattle.limits.specs.Limit.{hasLimit};
-ghost use Rattle.verdict.specs.Call.{combined, verdictIn, verdictRefusal, verdictAnswer, refusalNumber};
+ghost use Rattle.verdict.specs.Call.{combined, judged, questionChecks, verdictRefusal, verdictAnswer, refusalNumber};
 
 // The largest number of units per ampere.
 const LARGEST_SCALE: u32 = 1 << 28;
 
-// The refusal table's row "verdict": the number of the first fault.
-fn verdict_refusal(observation: Observation, question: Question) -> u32
-    ensures { λ r. ⌜ r ≡ verdictRefusal observation question ⌝ }
+// The refusal table's row "verdict" for a record that is sound or not: the number of the first fault.
+fn question_refusal(sound: bool, windows: u32, question: Question) -> u32
+    ensures { λ r. ⌜ r ≡ firstFault ((not sound, unsoundRecord) ∷ questionChecks windows question) ⌝ }
 {
     fault_or(
-        !is_sound(observation),
+        !sound,
         UNSOUND_RECORD,
         fault_or(
-            observation.windows == 0,
+            windows == 0,
             NO_WINDOW,
             fault_or(
                 !has_limit(question.order),
@@ -75,19 +80,18 @@ fn combined(
     Verdict::Close(order)
 }
 
-// The average against the limit of the class, and the peak against 150 % of that.
-fn verdict_in(class: Class, observation: Observation, order: u32, scale: u32) -> Verdict
+// The average of so many windows against the limit of the class, and the peak against 150 % of that.
+fn judged(class: Class, sum: u64, windows: u32, peak: u64, order: u32, scale: u32) -> Verdict
     requires { ⌜ hasLimit order ≡ true ⌝ }
-    requires { ⌜ 0 < observation .windows ⌝ }
-    ensures { λ r. ⌜ r ≡ verdictIn class observation order scale ⌝ }
+    requires { ⌜ 0 < windows ⌝ }
+    ensures { λ r. ⌜ r ≡ judged class (average (whole sum) windows) (whole peak) order scale ⌝ }
 {
-    let place = (order - 1) as usize;
     let average = Fraction {
-        numerator: observation.sum[place],
-        denominator: observation.windows as u64,
+        numerator: sum,
+        denominator: windows as u64,
     };
     let peak = Fraction {
-        numerator: observation.peak[place],
+        numerator: peak,
         denominator: 1,
     };
     let limit = listed_in_units(class, order, scale);
@@ -101,10 +105,23 @@ pub fn order_verdict(observation: Observation, question: Question) -> VerdictAns
     ensures { λ r. ⌜ r ≡ verdictAnswer observation question ⌝ }
     ensures { λ r. ⌜ refusalNumber r ≡ verdictRefusal observation question ⌝ }
 {
-    let refusal = verdict_refusal(observation, question);
+    let sound = is_sound(
+        observation.setup,
+        observation.windows,
+        &observation.smoothed,
+        &observation.sum,
+        &observation.peak,
+        &observation.latest,
+    );
+    let refusal = question_refusal(sound, observation.windows, question);
     if refusal != NO_REFUSAL {
         return VerdictAnswer::Refused(refusal);
     }
     let class = class_with(question.letter);
-    VerdictAnswer::Given(verdict_in(class, observation, question.order, question.scale))
+    let windows = observation.windows;
+    let order = question.order;
+    let place = (order - 1) as usize;
+    let sum = observation.sum[place];
+    let peak = observation.peak[place];
+    VerdictAnswer::Given(judged(class, sum, windows, peak, order, question.scale))
 }

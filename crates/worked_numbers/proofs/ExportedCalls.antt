@@ -20,7 +20,10 @@ use Rattle.rows.specs.Systems.{isSystem}
 use Rattle.rows.specs.Editions.{isEdition}
 use Rattle.rows.specs.Setups.{setupOf, isSetup, sameSetup}
 use Rattle.rows.specs.Orders.{isOrder}
-use Rattle.distortion.specs.Distortion.{sumOfSquares, distortionOf, distortionAnswer}
+use Rattle.rows.specs.Rows.{firstValues}
+use Rattle.wide_numbers.specs.Squares.{sumOfSquares}
+use Rattle.distortion.specs.Distortion.{distortionOf, distortionAnswer}
+use Rattle.observation.specs.Latest.{withLatest, latestValues}
 use Rattle.observation.specs.Soundness.{noneAbove, allZero, isSound}
 use Rattle.observation.specs.Book.{smoothedNext, bookStep}
 use Rattle.observation.specs.Smoothing.{smoothedValue}
@@ -46,12 +49,15 @@ use Rattle.exported_windows.specs.Kinds.{kinds, isKind, kindWith}
 use Rattle.exported_windows.specs.GroupCalls.{groupCallRefusal, groupCallExit, rowCallRefusal, rowCallExit, distortionCallRefusal, distortionCallExit}
 use Rattle.exported_answers.specs.LentWords.{wordsFrom}
 use Rattle.record_words.specs.Parts.{partsFrom}
+use Rattle.record_words.specs.Halves.{packed, unpacked}
 use Rattle.record_words.specs.Words.{partsOf, ofParts, wordsOf, recordOf}
 use Rattle.exported_text.specs.ColumnCalls.{columnCallExit}
 use Rattle.exported_text.specs.ListingCall.{listingCallRefusal, listingCallExit, listingCallCountExit}
 use Rattle.exported_limits.specs.LimitCall.{limitNumeratorExit, limitDenominatorExit}
 use Rattle.exported_records.specs.RecordCalls.{freshCallRefusal, freshCallExit, addRowCallRefusal, addRowCallExit}
 use Rattle.exported_windows.specs.ObserveCall.{observeCallRefusal, observeCallExit}
+use Rattle.three_seconds.specs.ThreeSecond.{threeSecondOf, threeSecondRefusal}
+use Rattle.exported_records.specs.ThreeSecondCall.{threeSecondCallRefusal, threeSecondCallExit}
 use Rattle.exported_records.specs.VerdictCall.{verdictNumber, verdictCallRefusal, verdictCallExit}
 
 -- each row is what a call answers and leaves, and the same in figures
@@ -139,9 +145,9 @@ limits-worked = refl
 
 -- ---- kifsang_verdict
 
--- a record of system 10 under A1 with so many windows, and one number at every place after them
+-- a record of system 10 under A1 with so many windows, one number for all smoothed values, sums and peaks, and zeros for the latest rows
 recordWith : ℕ → ℕ → List ℕ
-recordWith windows value = 10 ∷ 1 ∷ windows ∷ replicate 120 value
+recordWith windows value = 10 ∷ 1 ∷ windows ∷ (replicate 120 value ++ replicate 300 0)
 
 verdictFor : List ℕ → ℕ → ℕ → ℕ → ℕ × ℕ
 verdictFor words order letter scale =
@@ -159,12 +165,12 @@ verdicts-worked :
     (verdictFor (recordWith 1 3450012) 3 66 1000000, (0, 2)) ∷
     (verdictFor (recordWith 1 3450013) 3 66 1000000, (0, 3)) ∷
     -- 102 before 7 before 10 before 6 before 15 before 11
-    (verdictFor (replicate 122 7) 1 0 0, (102, 77)) ∷
-    (verdictFor (replicate 124 7) 1 0 0, (102, 77)) ∷
-    (verdictFor (replicate 123 7) 1 0 0, (7, 77)) ∷
-    (verdictFor ((2 ^ 32 + 10) ∷ 1 ∷ 1 ∷ replicate 120 0) 1 0 0, (7, 77)) ∷
-    (verdictFor (10 ∷ 2 ∷ 1 ∷ replicate 120 0) 1 0 0, (7, 77)) ∷
-    (verdictFor (10 ∷ (2 ^ 32 + 1) ∷ 1 ∷ replicate 120 0) 1 0 0, (7, 77)) ∷
+    (verdictFor (replicate 422 7) 1 0 0, (102, 77)) ∷
+    (verdictFor (replicate 424 7) 1 0 0, (102, 77)) ∷
+    (verdictFor (replicate 423 7) 1 0 0, (7, 77)) ∷
+    (verdictFor ((2 ^ 32 + 10) ∷ 1 ∷ 1 ∷ replicate 420 0) 1 0 0, (7, 77)) ∷
+    (verdictFor (10 ∷ 2 ∷ 1 ∷ replicate 420 0) 1 0 0, (7, 77)) ∷
+    (verdictFor (10 ∷ (2 ^ 32 + 1) ∷ 1 ∷ replicate 420 0) 1 0 0, (7, 77)) ∷
     (verdictFor (recordWith 0 0) 1 0 0, (10, 77)) ∷
     (verdictFor (recordWith 1 0) 1 0 0, (6, 77)) ∷
     (verdictFor (recordWith 1 0) 41 0 0, (6, 77)) ∷
@@ -177,8 +183,42 @@ verdicts-worked :
     (verdictFor (recordWith 1 0) 40 65 (2 ^ 28), (0, 1)) ∷
     (verdictFor (recordWith 1 0) 40 66 (2 ^ 28), (0, 1)) ∷
     [])
-unfolding Alike verdictFor recordWith verdictCallRefusal verdictCallExit verdictNumber recordOf ofParts partsFrom wordsFrom tabulate verdictRefusal verdictIn averageOf peakOf combined raised atMost isOver isWithin limitInUnits peakLimitInUnits isClass classWith letterOf limitOf classALimit figureIn ownFigures overOrder whole times divide isSound isSetup isSystem isEdition noneAbove allZero anyOf
+unfolding Alike verdictFor recordWith verdictCallRefusal verdictCallExit verdictNumber recordOf ofParts partsFrom wordsFrom unpacked tabulate verdictRefusal verdictIn averageOf peakOf combined raised atMost isOver isWithin limitInUnits peakLimitInUnits isClass classWith letterOf limitOf classALimit figureIn ownFigures overOrder whole times divide isSound isSetup isSystem isEdition noneAbove allZero anyOf
 verdicts-worked = refl
+
+-- ---- kifsang_three_second_value
+
+-- a record of system 10 under A1 with so many windows, zeros for smoothed values, sums and peaks, and the words of its latest rows
+recordKeeping : ℕ → List ℕ → List ℕ
+recordKeeping windows latest = 10 ∷ 1 ∷ windows ∷ (replicate 120 0 ++ latest)
+
+-- 15 rows with 3 at order 1 and 4 at order 2, and zeros else
+threesAndFours : List ℕ
+threesAndFours = joined (replicate 15 (17179869187 ∷ replicate 19 0))
+
+threeSecondFor : List ℕ → ℕ → ℕ × ℕ
+threeSecondFor words order = (threeSecondCallRefusal words order, threeSecondCallExit words order 77)
+
+three-seconds-worked :
+    Alike
+    ((threeSecondFor (recordKeeping 15 threesAndFours) 1, (0, 3)) ∷
+    (threeSecondFor (recordKeeping 16 threesAndFours) 2, (0, 4)) ∷
+    (threeSecondFor (recordKeeping 45000 threesAndFours) 3, (0, 0)) ∷
+    -- 15 at order 40 of the last row alone: 15 × 3² is 135 and 15 × 4² is 240, the square of 15 is 225
+    (threeSecondFor (recordKeeping 15 (replicate 299 0 ++ (64424509440 ∷ []))) 40, (0, 3)) ∷
+    (threeSecondFor (recordKeeping 15 (replicate 300 18446744073709551615)) 40, (0, 4294967295)) ∷
+    -- 102 before 7 before 6 before 20
+    (threeSecondFor (replicate 422 7) 0, (102, 77)) ∷
+    (threeSecondFor (replicate 424 7) 0, (102, 77)) ∷
+    (threeSecondFor (replicate 423 7) 0, (7, 77)) ∷
+    (threeSecondFor (recordKeeping 14 threesAndFours) 0, (7, 77)) ∷
+    (threeSecondFor (recordWith 14 0) 0, (6, 77)) ∷
+    (threeSecondFor (recordWith 14 0) 41, (6, 77)) ∷
+    (threeSecondFor (recordWith 14 0) 40, (20, 77)) ∷
+    (threeSecondFor (recordWith 0 0) 1, (20, 77)) ∷
+    [])
+unfolding Alike threeSecondFor recordKeeping recordWith threesAndFours threeSecondCallRefusal threeSecondCallExit threeSecondRefusal threeSecondOf sumOfSquares sumOver largest latestValues recordOf ofParts partsFrom wordsFrom unpacked tabulate joined isOrder isSound isSetup isSystem isEdition noneAbove allZero anyOf
+three-seconds-worked = refl
 
 -- ---- kifsang_row
 
@@ -213,15 +253,15 @@ freshFor system edition words =
 
 fresh-records-worked :
     Alike
-    ((freshFor 10 0 (replicate 123 7), (0, 10 ∷ 0 ∷ replicate 121 0)) ∷
-    (freshFor 12 1 (replicate 123 7), (0, 12 ∷ 1 ∷ replicate 121 0)) ∷
+    ((freshFor 10 0 (replicate 423 7), (0, 10 ∷ 0 ∷ replicate 421 0)) ∷
+    (freshFor 12 1 (replicate 423 7), (0, 12 ∷ 1 ∷ replicate 421 0)) ∷
     -- 102 before 1 before 19
-    (freshFor 11 2 (replicate 122 7), (102, replicate 122 7)) ∷
-    (freshFor 11 2 (replicate 124 7), (102, replicate 124 7)) ∷
-    (freshFor 11 2 (replicate 123 7), (1, replicate 123 7)) ∷
-    (freshFor 10 2 (replicate 123 7), (19, replicate 123 7)) ∷
+    (freshFor 11 2 (replicate 422 7), (102, replicate 422 7)) ∷
+    (freshFor 11 2 (replicate 424 7), (102, replicate 424 7)) ∷
+    (freshFor 11 2 (replicate 423 7), (1, replicate 423 7)) ∷
+    (freshFor 10 2 (replicate 423 7), (19, replicate 423 7)) ∷
     [])
-unfolding Alike freshFor freshCallRefusal freshCallExit freshRefusal isSystem isEdition wordsOf partsOf joined emptyRecord
+unfolding Alike freshFor freshCallRefusal freshCallExit freshRefusal isSystem isEdition wordsOf partsOf packed joined emptyRecord
 fresh-records-worked = refl
 
 -- ---- kifsang_observe
@@ -234,17 +274,17 @@ observeFor kind system edition recording start windows words =
 observations-worked :
     Alike
     -- no window: a fresh record
-    ((observeFor 1 12 1 [] 9 0 (replicate 123 7), (0, 12 ∷ 1 ∷ replicate 121 0)) ∷
+    ((observeFor 1 12 1 [] 9 0 (replicate 423 7), (0, 12 ∷ 1 ∷ replicate 421 0)) ∷
     -- 101 before 102 before 1 before 19 before 2 before 3
-    (observeFor 5 11 2 [] 0 1 (replicate 122 7), (101, replicate 122 7)) ∷
-    (observeFor 4 11 2 [] 0 1 (replicate 122 7), (102, replicate 122 7)) ∷
-    (observeFor 4 11 2 [] 0 1 (replicate 124 7), (102, replicate 124 7)) ∷
-    (observeFor 4 11 2 [] 0 1 (replicate 123 7), (1, replicate 123 7)) ∷
-    (observeFor 4 10 2 [] 0 1 (replicate 123 7), (19, replicate 123 7)) ∷
-    (observeFor 4 10 0 (replicate 2048 (pos 131072)) 1 1 (replicate 123 7), (2, replicate 123 7)) ∷
-    (observeFor 4 10 1 (replicate 2048 (pos 131072)) 0 2 (replicate 123 7), (3, replicate 123 7)) ∷
+    (observeFor 5 11 2 [] 0 1 (replicate 422 7), (101, replicate 422 7)) ∷
+    (observeFor 4 11 2 [] 0 1 (replicate 422 7), (102, replicate 422 7)) ∷
+    (observeFor 4 11 2 [] 0 1 (replicate 424 7), (102, replicate 424 7)) ∷
+    (observeFor 4 11 2 [] 0 1 (replicate 423 7), (1, replicate 423 7)) ∷
+    (observeFor 4 10 2 [] 0 1 (replicate 423 7), (19, replicate 423 7)) ∷
+    (observeFor 4 10 0 (replicate 2048 (pos 131072)) 1 1 (replicate 423 7), (2, replicate 423 7)) ∷
+    (observeFor 4 10 1 (replicate 2048 (pos 131072)) 0 2 (replicate 423 7), (3, replicate 423 7)) ∷
     [])
-unfolding Alike observeFor observeCallRefusal observeCallExit isKind kindWith kinds observeRefusal observeChecks windowRows tabulate isSystem isEdition windowAt outOfRange anyOf recordAfter emptyRecord wordsOf partsOf joined
+unfolding Alike observeFor observeCallRefusal observeCallExit isKind kindWith kinds observeRefusal observeChecks windowRows tabulate isSystem isEdition windowAt outOfRange anyOf recordAfter emptyRecord wordsOf partsOf packed joined
 observations-worked = refl
 
 -- ---- kifsang_add_row
@@ -256,28 +296,35 @@ addFor words system edition values =
 
 add-rows-worked :
     Alike
-    ((addFor (10 ∷ 0 ∷ replicate 121 0) 10 0 (replicate 40 8944), (0, 10 ∷ 0 ∷ 1 ∷ replicate 120 8944)) ∷
-    -- •8 in words: smoothed, sum and peak of each order
-    (addFor (recordWith 1 8944) 10 1 (replicate 40 0), (0, 10 ∷ 1 ∷ 2 ∷ replicate 40 7828 ++ (replicate 40 16772 ++ replicate 40 8944))) ∷
+    ((addFor (10 ∷ 0 ∷ replicate 421 0) 10 0 (replicate 40 8944), (0, 10 ∷ 0 ∷ 1 ∷ (replicate 120 8944 ++ (replicate 20 38414187504368 ++ replicate 280 0)))) ∷
+    -- •8 in words: smoothed, sum and peak of each order; the row of zeros is the second of the latest
+    (addFor (recordWith 1 8944) 10 1 (replicate 40 0), (0, 10 ∷ 1 ∷ 2 ∷ replicate 40 7828 ++ (replicate 40 16772 ++ (replicate 40 8944 ++ replicate 300 0)))) ∷
     -- the weights 1000 and 7012 on the largest value
     (
       addFor (recordWith 1 4294967295) 10 1 (replicate 40 0),
-      (0, 10 ∷ 1 ∷ 2 ∷ replicate 40 3758900483 ++ (replicate 40 8053867778 ++ replicate 40 4294967295)),
+      (0, 10 ∷ 1 ∷ 2 ∷ replicate 40 3758900483 ++ (replicate 40 8053867778 ++ (replicate 40 4294967295 ++ replicate 300 0))),
     ) ∷
-    (addFor (recordWith 1 0) 10 1 (replicate 40 4294967295), (0, 10 ∷ 1 ∷ 2 ∷ replicate 120 536066812)) ∷
+    -- and two of the largest values in a word
+    (
+      addFor (recordWith 1 0) 10 1 (replicate 40 4294967295),
+      (
+        0,
+        10 ∷ 1 ∷ 2 ∷ (replicate 120 536066812 ++ (replicate 20 0 ++ (replicate 20 18446744073709551615 ++ replicate 260 0))),
+      ),
+    ) ∷
     -- 102 before 7 before 1 before 19 before 8 before 9
-    (addFor (replicate 122 7) 11 2 (replicate 40 1), (102, replicate 122 7)) ∷
-    (addFor (replicate 123 7) 11 2 (replicate 39 1), (102, replicate 123 7)) ∷
-    (addFor (replicate 123 7) 11 2 (replicate 41 1), (102, replicate 123 7)) ∷
-    (addFor (replicate 123 7) 11 2 (replicate 40 1), (7, replicate 123 7)) ∷
-    (addFor (10 ∷ 2 ∷ replicate 121 0) 10 2 (replicate 40 1), (7, 10 ∷ 2 ∷ replicate 121 0)) ∷
+    (addFor (replicate 422 7) 11 2 (replicate 40 1), (102, replicate 422 7)) ∷
+    (addFor (replicate 423 7) 11 2 (replicate 39 1), (102, replicate 423 7)) ∷
+    (addFor (replicate 423 7) 11 2 (replicate 41 1), (102, replicate 423 7)) ∷
+    (addFor (replicate 423 7) 11 2 (replicate 40 1), (7, replicate 423 7)) ∷
+    (addFor (10 ∷ 2 ∷ replicate 421 0) 10 2 (replicate 40 1), (7, 10 ∷ 2 ∷ replicate 421 0)) ∷
     (addFor (recordWith 45000 7) 11 2 (replicate 40 1), (1, recordWith 45000 7)) ∷
     (addFor (recordWith 45000 7) 12 2 (replicate 40 1), (19, recordWith 45000 7)) ∷
     (addFor (recordWith 45000 7) 12 1 (replicate 40 1), (8, recordWith 45000 7)) ∷
     (addFor (recordWith 45000 7) 10 0 (replicate 40 1), (8, recordWith 45000 7)) ∷
     (addFor (recordWith 45000 7) 10 1 (replicate 40 1), (9, recordWith 45000 7)) ∷
     [])
-unfolding Alike addFor recordWith addRowCallRefusal addRowCallExit recordOf ofParts partsFrom wordsFrom wordsOf partsOf joined addRowRefusal rowChecks sameSetup withRow nextBook bookAt bookStep smoothedNext smoothedValue nearest tabulate isSound isSetup isSystem isEdition noneAbove allZero anyOf
+unfolding Alike addFor recordWith addRowCallRefusal addRowCallExit recordOf ofParts partsFrom wordsFrom unpacked wordsOf partsOf packed joined addRowRefusal rowChecks sameSetup withRow withLatest firstValues nextBook bookAt bookStep smoothedNext smoothedValue nearest tabulate isSound isSetup isSystem isEdition noneAbove allZero anyOf
 add-rows-worked = refl
 
 -- ---- kifsang_read_column

@@ -23,12 +23,14 @@ use Rattle.groups.specs.declared.Kind.{Kind}
 use Rattle.groups.specs.declared.Kind.the-variants.{Component, HarmonicGroup, HarmonicSubgroup, InterharmonicGroup, InterharmonicCentredSubgroup}
 use Rattle.groups.specs.Group.{valueOver, groupValue, groupAnswer}
 use Rattle.rows.specs.Systems.{isSystem}
+use Rattle.rows.specs.Rows.{firstValues}
 use Rattle.rows.specs.Editions.{isEdition}
 use Rattle.rows.specs.Setups.{setupOf, isSetup, sameSetup}
 use Rattle.rows.specs.declared.Setup.{Setup}
 use Rattle.rows.specs.Orders.{isOrder}
 use Rattle.observation.specs.Book.{smoothedNext, bookStep}
 use Rattle.observation.specs.Smoothing.{smoothedValue}
+use Rattle.observation.specs.Latest.{withLatest}
 use Rattle.observation.specs.Soundness.{noneAbove, allZero, isSound}
 use Rattle.observation.specs.Calls.{emptyRecord, freshRefusal, freshAnswer, bookAt, nextBook, withRow, rowChecks, addRowRefusal, addRowAnswer}
 use Rattle.observation.specs.RecordAfter.{recordAfter}
@@ -86,7 +88,7 @@ pulse-under-a1 kind system first value known at-first alike = (
 )
 
 pub worked-numbers : Everywhere Holds cases
-unfolding cases Holds tableEntry nearest quarterSine denominator added takenAway term factorial isSetup isSystem isEdition sameSetup valueOver rootOf largest spanOf groupedAs weightsIn weightedSum sumOver tabulate anyOf rowOf afterRows recordAfter emptyRecord freshRefusal freshAnswer bookAt nextBook withRow rowChecks addRowRefusal addRowAnswer noneAbove allZero isSound smoothedNext bookStep smoothedValue ownFigures figureIn limitOf classALimit isClass classWith letterOf overOrder limitInUnits peakLimitInUnits raised atMost isWithin isOver averageOf peakOf combined verdictIn verdictRefusal verdictAnswer whole times divide bytesOf areDigits isWhole placeValue wholeNumber negativeNumber signedNumber afterBlanks columnNumber columnReadAnswer
+unfolding cases Holds tableEntry nearest quarterSine denominator added takenAway term factorial isSetup isSystem isEdition sameSetup valueOver rootOf largest spanOf groupedAs weightsIn weightedSum sumOver tabulate anyOf rowOf afterRows recordAfter emptyRecord freshRefusal freshAnswer bookAt nextBook withRow withLatest firstValues rowChecks addRowRefusal addRowAnswer noneAbove allZero isSound smoothedNext bookStep smoothedValue ownFigures figureIn limitOf classALimit isClass classWith letterOf overOrder limitInUnits peakLimitInUnits raised atMost isWithin isOver averageOf peakOf combined verdictIn verdictRefusal verdictAnswer whole times divide bytesOf areDigits isWhole placeValue wholeNumber negativeNumber signedNumber afterBlanks columnNumber columnReadAnswer
 worked-numbers = (
   refl,
   (

@@ -1,11 +1,11 @@
 //! The recordings of `examples/recordings`, judged by the core in both classes as the script beside them says,
 //! under each edition. Their records are the second program's.
 
-use crate::records::words;
 use crate::{setup, Tally};
 use kifsang::{Kind, Verdict, CLASS_A, CLASS_B, EDITION_2, EDITION_A1};
 use kifsang::{ORDER_COUNT, RECORD_WORDS, WINDOW_LENGTH};
 use reference::observe::observe;
+use reference::words::words_of;
 
 /// 4,000 counts per ampere, 4,096 units in a count.
 const UNITS_PER_AMPERE: u32 = 4_000 * 4_096;
@@ -37,7 +37,7 @@ fn record_of(tally: &mut Tally, name: &str, edition: u32) -> [u64; RECORD_WORDS]
     tally.same(
         name,
         record.to_vec(),
-        words(&expected.expect("a record of the second program")),
+        words_of(&expected.expect("a record of the second program")),
     );
     record
 }

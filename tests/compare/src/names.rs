@@ -44,6 +44,7 @@ pub fn compare() {
         LARGEST_SAMPLE 131071
         LARGEST_SCALE 268435456
         MOST_WINDOWS 45000
+        THREE_SECOND_WINDOWS 15
         COLUMN_WIDTH 8
         LISTING_ROOM 1640
         SMOOTHED_MARGIN 12
@@ -58,7 +59,8 @@ pub fn compare() {
         SMOOTHED_PLACE 3
         SUM_PLACE 43
         PEAK_PLACE 83
-        RECORD_WORDS 123
+        LATEST_PLACE 123
+        RECORD_WORDS 423
     };
     let refusals = refusals! {
         UNKNOWN_SYSTEM 1
@@ -77,6 +79,7 @@ pub fn compare() {
         WRONG_BUFFER_LENGTH 14
         UNKNOWN_CLASS 15
         UNKNOWN_EDITION 19
+        TOO_FEW_WINDOWS 20
         UNKNOWN_KIND 101
         WRONG_WORD_COUNT 102
     };

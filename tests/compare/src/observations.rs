@@ -1,6 +1,5 @@
 //! The record after windows back to back, in one call and by the calls one by one.
 
-use crate::records::words;
 use crate::windows::KINDS;
 use crate::{numbers, setup, system_and_edition, Tally, EDITIONS};
 use kifsang::{Refusal, LINE_COUNT, MOST_WINDOWS, ORDER_COUNT, RECORD_WORDS, WINDOW_LENGTH};
@@ -9,6 +8,7 @@ use reference::observe::observe;
 use reference::random::Random;
 use reference::rows::Setup;
 use reference::signals;
+use reference::words::words_of;
 
 /// What every word of a record holds before a call.
 const BEFORE: u64 = 0xABCD;
@@ -59,7 +59,7 @@ fn compare_observe(tally: &mut Tally, recording: &[i32], asked: Asked) {
     let (number, refusal) = numbers(&answer, &expected);
     let what = format!("{asked:?} of {} samples", recording.len());
     tally.same(&what, number, refusal);
-    let expected = expected.map_or(vec![BEFORE; RECORD_WORDS], |record| words(&record));
+    let expected = expected.map_or(vec![BEFORE; RECORD_WORDS], |record| words_of(&record));
     tally.same(&what, &core, &expected);
     let one_by_one = chain(recording, asked);
     tally.same(&what, answer.map(|()| core), one_by_one);

@@ -1,4 +1,4 @@
-//! Observation records and verdicts, sound and not.
+//! Observation records, their verdicts and three-second values, sound and not.
 
 use crate::{numbers, setup, system_and_edition, Tally, EDITIONS};
 use kifsang::{CLASS_A, CLASS_B, EDITION_2, ORDER_COUNT, RECORD_WORDS};
@@ -6,23 +6,15 @@ use reference::limits::order_limit;
 use reference::observation::{add_row, fresh_record, Observation};
 use reference::random::Random;
 use reference::rows::{Row, Setup};
+use reference::three_seconds::three_second_value;
 use reference::verdict::{order_verdict, Question, Verdict};
+use reference::words::words_of;
 
 /// Both classes, and letters of none.
 const CLASS_LETTERS: [u8; 5] = [CLASS_A, CLASS_B, 0, b'C', b'b'];
 
-/// The words of a record, in the interface's order.
-pub fn words(record: &Observation) -> Vec<u64> {
-    let Setup { system, edition } = record.setup;
-    let mut words = vec![system, edition, record.windows];
-    words.extend(record.smoothed);
-    words.extend(record.sum);
-    words.extend(record.peak);
-    words
-}
-
-fn compare_add_row(tally: &mut Tally, record: &Observation, row: &Row) -> Observation {
-    let mut core = words(record);
+pub fn compare_add_row(tally: &mut Tally, record: &Observation, row: &Row) -> Observation {
+    let mut core = words_of(record);
     let (system, edition) = system_and_edition(row.setup);
     let answer = kifsang::add_row(&mut core, system, edition, &row.values);
     let (next, refusal) = add_row(record.clone(), row);
@@ -32,7 +24,7 @@ fn compare_add_row(tally: &mut Tally, record: &Observation, row: &Row) -> Observ
         answer.err().map_or(0, |refusal| refusal.0),
         expected,
     );
-    tally.same("the record after add row", core, words(&next));
+    tally.same("the record after add row", core, words_of(&next));
     next
 }
 
@@ -43,7 +35,7 @@ fn compare_verdict(
     class_letter: u8,
     scale: u32,
 ) {
-    let core = kifsang::verdict(&words(record), order, class_letter, scale);
+    let core = kifsang::verdict(&words_of(record), order, class_letter, scale);
     let question = Question {
         order: order.into(),
         class_letter,
@@ -68,6 +60,19 @@ fn compare_verdicts(tally: &mut Tally, record: &Observation, scales: &[u32]) {
                 compare_verdict(tally, record, order, class_letter, scale);
             }
         }
+    }
+}
+
+/// Every order, and those beside them.
+pub fn compare_three_second_values(tally: &mut Tally, record: &Observation) {
+    let words = words_of(record);
+    for order in (0..=42).chain([u32::MAX]) {
+        let core = kifsang::three_second_value(&words, order);
+        let expected = three_second_value(record, order.into());
+        let (number, refusal) = numbers(&core, &expected);
+        let what = format!("three-second value of order {order}");
+        tally.same(&what, number, refusal);
+        tally.same(&what, core.ok(), expected.ok());
     }
 }
 
@@ -122,7 +127,7 @@ fn random_setup(random: &mut Random) -> Setup {
 
 /// The setup of a row: mostly the record's, else with another system, another edition or both, which may
 /// be none.
-fn row_setup(random: &mut Random, own: Setup) -> Setup {
+pub fn row_setup(random: &mut Random, own: Setup) -> Setup {
     let mut setup = own;
     if random.below(8) == 0 {
         setup.system = random.below(14);
@@ -133,7 +138,7 @@ fn row_setup(random: &mut Random, own: Setup) -> Setup {
     setup
 }
 
-fn random_row(random: &mut Random, setup: Setup) -> Row {
+pub fn random_row(random: &mut Random, setup: Setup) -> Row {
     let bits = 1 + random.below(32);
     let mut values = [0; ORDER_COUNT];
     for value in &mut values {
@@ -146,7 +151,7 @@ fn random_row(random: &mut Random, setup: Setup) -> Row {
 fn damaged(random: &mut Random, record: &Observation) -> Observation {
     let mut record = record.clone();
     let place = random.below(ORDER_COUNT as u64) as usize;
-    match random.below(12) {
+    match random.below(14) {
         0 => record.setup.system = random.below(14),
         1 => record.windows = 45_000,
         2 => record.windows = 45_001,
@@ -158,6 +163,8 @@ fn damaged(random: &mut Random, record: &Observation) -> Observation {
         8 => record.setup.system = (1 << 32) + 10,
         9 => record.setup.edition = random.below(4),
         10 => record.setup.edition = u64::from(u32::MAX),
+        11 => record.windows = random.below(16),
+        12 => record.latest[random.below(15) as usize][place] = 1 + random.below(5) as u32,
         _ => record.setup.edition = (1 << 32) + random.below(2),
     }
     record
@@ -172,7 +179,7 @@ fn compare_fresh_record(tally: &mut Tally, setup: Setup) {
     let what = format!("fresh record of {setup:?}");
     tally.same(&what, answer.err().map_or(0, |refusal| refusal.0), expected);
     let after = if expected == 0 {
-        words(&fresh)
+        words_of(&fresh)
     } else {
         vec![7; RECORD_WORDS]
     };
@@ -195,9 +202,11 @@ pub fn compare(tally: &mut Tally, seed: u64) {
                 let of = row_setup(&mut random, setup);
                 let row = random_row(&mut random, of);
                 record = compare_add_row(tally, &record, &row);
+                compare_three_second_values(tally, &record);
                 let wrong = damaged(&mut random, &record);
                 compare_add_row(tally, &wrong, &row);
                 compare_verdicts(tally, &wrong, &[1_000_000]);
+                compare_three_second_values(tally, &wrong);
             }
             compare_verdicts(tally, &record, &scales);
             compare_letters(tally, &record);
@@ -241,8 +250,14 @@ pub fn compare(tally: &mut Tally, seed: u64) {
         let (mut full, _) = fresh_record(setup);
         for windows in [44_999, 45_000] {
             full.windows = windows;
+            for row in &mut full.latest {
+                *row = random_row(&mut random, setup).values;
+            }
+            compare_three_second_values(tally, &full);
             for row_setup in Setup::ALL {
-                compare_add_row(tally, &full, &random_row(&mut random, row_setup));
+                let row = random_row(&mut random, row_setup);
+                let next = compare_add_row(tally, &full, &row);
+                compare_three_second_values(tally, &next);
             }
         }
     }
@@ -254,7 +269,7 @@ pub fn compare(tally: &mut Tally, seed: u64) {
         kifsang::fresh_record(10, EDITION_2, &mut short),
         Err(kifsang::Refusal(102)),
     );
-    let mut whole = words(&fresh);
+    let mut whole = words_of(&fresh);
     let wrong = [0; ORDER_COUNT + 1];
     tally.same(
         "a long row",
@@ -266,6 +281,15 @@ pub fn compare(tally: &mut Tally, seed: u64) {
         kifsang::verdict(&short, 3, CLASS_A, 1),
         Err(kifsang::Refusal(102)),
     );
+    for count in [0, 123, RECORD_WORDS - 1, RECORD_WORDS + 1] {
+        for order in [0, 3] {
+            tally.same(
+                "a three-second value without a record",
+                kifsang::three_second_value(&vec![7; count], order),
+                Err(kifsang::Refusal(102)),
+            );
+        }
+    }
     tally.same(
         "a long row",
         kifsang::distortion(&wrong),

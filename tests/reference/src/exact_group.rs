@@ -1,6 +1,7 @@
 //! The exact group G (document 01, "Groups"): exact sines in the sums, A and B
 //! each twice the sum unrounded, and no root taken, so that G is a fraction.
-//! Here too is the check of demand 3 on one group value.
+//! Here too are the check of demand 3 on one group value, and the check of a three-second
+//! value (document 02, card 8).
 
 use crate::groups::{Kind, weighted_lines};
 use crate::largest::largest;
@@ -12,6 +13,8 @@ use crate::turn::{Place, QUARTER_TURN, cosine_place, sine_place};
 
 /// How far a group value may lie from the exact one, in units.
 pub const GROUP_MARGIN: u64 = 7;
+/// How far a three-second value may lie from the exact one, in units.
+pub const THREE_SECOND_MARGIN: u64 = 8;
 
 /// The exact squares A² + B² of the 512 lines of a window in range.
 pub struct ExactLines {
@@ -86,10 +89,32 @@ impl ExactGroup {
             && self.numerator <= self.square_at_denominator(value + GROUP_MARGIN)
     }
 
+    /// The sum of the G of several windows; of 15 of them a fifteenth is the square of
+    /// the exact three-second value.
+    pub fn sum(groups: &[ExactGroup]) -> ExactGroup {
+        let zero = Natural::default();
+        let numerator = groups.iter().fold(zero, |sum, group| &sum + &group.numerator);
+        // Every exact line has the same denominator.
+        ExactGroup { numerator, denominator: exact_sines().denominator.power(2) }
+    }
+
+    /// What card 8 says of a three-second value t, where this is the sum of the G of its
+    /// 15 windows: 15 times the square of t less 8 (not below 0) is at most the sum, and
+    /// the sum at most 15 times the square of t plus 8.
+    pub fn is_near_three_seconds(&self, value: u64) -> bool {
+        let times_15 = |value: u64| {
+            let mut product = Natural::default();
+            product.add_product(&self.square_at_denominator(value), 15);
+            product
+        };
+        let low = value.saturating_sub(THREE_SECOND_MARGIN);
+        times_15(low) <= self.numerator && self.numerator <= times_15(value + THREE_SECOND_MARGIN)
+    }
+
     /// The whole part of 1000 times the root of G: thousandths of a unit.
     pub fn root_in_thousandths(&self) -> u64 {
         let mut scaled = Natural::default();
         scaled.add_product(&self.numerator, 1_000_000);
-        largest(43, |root| self.square_at_denominator(root) <= scaled)
+        largest(45, |root| self.square_at_denominator(root) <= scaled)
     }
 }

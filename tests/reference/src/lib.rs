@@ -25,6 +25,8 @@ pub mod signals;
 pub mod sine;
 pub mod spectrum;
 pub mod table;
+pub mod three_seconds;
 pub mod turn;
 pub mod vectors;
 pub mod verdict;
+pub mod words;

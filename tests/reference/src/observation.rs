@@ -1,6 +1,7 @@
 //! The observation record (document 01, section of that name), to which an edition
-//! belongs (document 02, card 7). The record's fields are wider than any sound record
-//! needs, so that records that are not sound can be tried too.
+//! belongs (document 02, card 7) and which keeps the latest rows (card 8). The record's
+//! fields are wider than any sound record needs, so that records that are not sound can
+//! be tried too.
 
 use crate::refusals::Refusal;
 use crate::rounding::nearest;
@@ -8,6 +9,8 @@ use crate::rows::{LARGEST_VALUE, ORDER_COUNT, Row, Setup};
 
 /// The most windows of a record, 2.5 hours of them.
 pub const MOST_WINDOWS: u64 = 45_000;
+/// The windows of a three-second value, whose rows a record keeps.
+pub const THREE_SECOND_WINDOWS: usize = 15;
 
 /// The observation record; index 0 of each array is order 1.
 #[derive(Clone, Debug, PartialEq, Eq)]
@@ -22,11 +25,15 @@ pub struct Observation {
     pub sum: [u64; ORDER_COUNT],
     /// The peaks of smoothed values.
     pub peak: [u64; ORDER_COUNT],
+    /// The values of the latest rows as they came, the newest last; before the first
+    /// that came a sound record has rows of zeros.
+    pub latest: [[u32; ORDER_COUNT]; THREE_SECOND_WINDOWS],
 }
 
 fn empty_record(setup: Setup) -> Observation {
     let zeros = [0; ORDER_COUNT];
-    Observation { setup, windows: 0, smoothed: zeros, sum: zeros, peak: zeros }
+    let latest = [[0; ORDER_COUNT]; THREE_SECOND_WINDOWS];
+    Observation { setup, windows: 0, smoothed: zeros, sum: zeros, peak: zeros, latest }
 }
 
 /// A fresh record of the setup. Refused, with a record of system 10 and edition 2,
@@ -39,14 +46,17 @@ pub fn fresh_record(setup: Setup) -> (Observation, Option<Refusal>) {
 }
 
 /// Whether a record is sound; one that holds another edition than the two is not
-/// (document 02, card 7).
+/// (document 02, card 7), and it "has zeros where none has come yet" of the latest rows
+/// (card 8).
 pub fn is_sound(observation: &Observation) -> bool {
     let no_sum_above = observation.windows.saturating_mul(LARGEST_VALUE);
+    let rows_to_come = (THREE_SECOND_WINDOWS as u64).saturating_sub(observation.windows);
     observation.setup.check().is_ok()
         && observation.windows <= MOST_WINDOWS
         && observation.sum.iter().all(|&sum| sum <= no_sum_above)
         && observation.peak.iter().all(|&peak| peak <= LARGEST_VALUE)
         && observation.smoothed.iter().all(|&smoothed| smoothed <= LARGEST_VALUE)
+        && observation.latest.iter().take(rows_to_come as usize).all(|row| *row == [0; ORDER_COUNT])
         && (observation.windows > 0 || *observation == empty_record(observation.setup))
 }
 
@@ -71,7 +81,8 @@ fn check_row(observation: &Observation, row: &Row) -> Result<(), Refusal> {
     Ok(())
 }
 
-/// The record after a row; a refused row leaves it unchanged.
+/// The record after a row; a refused row leaves it unchanged. "As a window arrives the
+/// oldest leaves" (document 02, card 8).
 pub fn add_row(observation: Observation, row: &Row) -> (Observation, Option<Refusal>) {
     if let Err(refusal) = check_row(&observation, row) {
         return (observation, Some(refusal));
@@ -86,5 +97,7 @@ pub fn add_row(observation: Observation, row: &Row) -> (Observation, Option<Refu
         next.peak[place] = next.peak[place].max(smoothed);
     }
     next.windows += 1;
+    next.latest.rotate_left(1);
+    next.latest[THREE_SECOND_WINDOWS - 1] = row.values;
     (next, None)
 }

@@ -37,6 +37,8 @@ pub enum Refusal {
     UnknownClass = 15,
     /// The edition is neither 0 nor 1 (document 02, card 7).
     UnknownEdition = 19,
+    /// The record holds fewer than 15 windows (document 02, card 8).
+    TooFewWindows = 20,
 }
 
 impl Refusal {

@@ -9,7 +9,8 @@ use crate::groups::{Kind, group_row, group_value};
 use crate::largest::largest;
 use crate::limits::order_limit;
 use crate::listing::{LISTING_ROOM, fill_listing};
-use crate::observation::{MOST_WINDOWS, Observation, add_row, fresh_record};
+use crate::observation::{MOST_WINDOWS, Observation, THREE_SECOND_WINDOWS};
+use crate::observation::{add_row, fresh_record};
 use crate::observe::observe;
 use crate::random::Random;
 use crate::refusals::{Refusal, number_or_zero};
@@ -18,7 +19,9 @@ use crate::signals::{Signal, appliances, halfway_window, noise, noise_of_ends};
 use crate::signals::{plain_windows, seeded_windows, square_wave, tone};
 use crate::spectrum::{LARGEST_LINE, LARGEST_SAMPLE, LINE_COUNT, LINE_LIMIT, WINDOW_LENGTH};
 use crate::spectrum::{lines_from, spectrum};
+use crate::three_seconds::three_second_value;
 use crate::verdict::{LARGEST_SCALE, Question, Verdict, order_verdict};
+use crate::words::{LATEST_PLACE, record_of, words_of};
 use std::fmt::Display;
 use std::io::{Result, Write};
 
@@ -107,20 +110,23 @@ impl<W: Write> Printer<W> {
         self.line("lines_from", &numbers, &lines)
     }
 
-    /// The record after windows of the last recording.
+    /// The record after windows of the last recording, if there is one.
     fn observe_case(
         &mut self,
         recording: &[i32],
         (start, windows): (usize, usize),
         setup: Setup,
         (kind, number): (Kind, usize),
-    ) -> Result<()> {
+    ) -> Result<Option<Observation>> {
         let result = observe(recording, start, windows, setup, kind);
         let refusal = number_or_zero(&result).into();
         let Setup { system, edition } = setup;
         let numbers = [start, windows, system as usize, edition as usize, number, refusal];
         self.numbers("observe", &numbers)?;
-        result.map_or(Ok(()), |observation| self.record(&observation))
+        if let Ok(observation) = &result {
+            self.record(observation)?;
+        }
+        Ok(result.ok())
     }
 
     fn distortion_case(&mut self, values: &[u32; ORDER_COUNT]) -> Result<()> {
@@ -146,9 +152,7 @@ impl<W: Write> Printer<W> {
     }
 
     fn record(&mut self, record: &Observation) -> Result<()> {
-        let values = [record.smoothed, record.sum, record.peak].concat();
-        let Setup { system, edition } = record.setup;
-        self.line("record", &[system, edition, record.windows], &values)
+        self.numbers("record", &words_of(record))
     }
 
     fn fresh_case(&mut self, setup: Setup) -> Result<Observation> {
@@ -190,6 +194,13 @@ impl<W: Write> Printer<W> {
         let refusal = number_or_zero(&result).into();
         let numbers = [order, class_letter.into(), scale, refusal, outcome, carried];
         self.numbers("verdict", &numbers)
+    }
+
+    /// The three-second value of an order of the last record.
+    fn three_second_case(&mut self, record: &Observation, order: u64) -> Result<()> {
+        let result = three_second_value(record, order);
+        let refusal = number_or_zero(&result).into();
+        self.numbers("three_second_value", &[order, refusal, result.unwrap_or(0)])
     }
 
     fn read_column_case(&mut self, text: &[u8]) -> Result<()> {
@@ -637,6 +648,198 @@ fn print_edition_a1<W: Write>(printer: &mut Printer<W>, random: &mut Random) -> 
     print_record_edges(printer, EDITION_A1)
 }
 
+/// The three-second values of every order of the last record, and of the orders beside
+/// them.
+fn print_three_second_values<W: Write>(
+    printer: &mut Printer<W>,
+    record: &Observation,
+) -> Result<()> {
+    for order in (0..=ORDER_COUNT as u64 + 1).chain([u64::from(u32::MAX)]) {
+        printer.three_second_case(record, order)?;
+    }
+    Ok(())
+}
+
+/// A record, and what all calls that take one answer for it: three-second values, a
+/// verdict, and a row of the record's setup.
+fn print_calls_on<W: Write>(printer: &mut Printer<W>, record: &Observation) -> Result<()> {
+    printer.record(record)?;
+    print_three_second_values(printer, record)?;
+    let question = Question { order: 3, class_letter: b'A', scale: 1_000_000 };
+    printer.verdict_case(record, question)?;
+    let row = Row { setup: record.setup, values: [u32::MAX; ORDER_COUNT] };
+    printer.row_case(record.clone(), &row).map(|_| ())
+}
+
+/// Runs of 47 windows, refused rows among their calls, and the three-second values after
+/// each call: of every order about the multiples of 15, where a record begins to have them
+/// and a new row has the first place again, and else of one order.
+fn print_three_second_runs<W: Write>(printer: &mut Printer<W>, random: &mut Random) -> Result<()> {
+    for setup in Setup::ALL {
+        printer.comment("a run of rows with three-second values")?;
+        let mut record = printer.fresh_case(setup)?;
+        print_three_second_values(printer, &record)?;
+        while record.windows < 47 {
+            let other = setups(&[10, 11, 12], &EDITIONS)[random.below(12) as usize];
+            let setup = if random.below(3) == 0 { other } else { setup };
+            let values = random_values(random);
+            record = printer.row_case(record, &Row { setup, values })?;
+            if [0, 1, 13, 14].contains(&(record.windows % THREE_SECOND_WINDOWS as u64)) {
+                print_three_second_values(printer, &record)?;
+            } else {
+                let order = random.below(ORDER_COUNT as u64 + 2);
+                printer.three_second_case(&record, order)?;
+            }
+        }
+    }
+    Ok(())
+}
+
+/// Three-second values from samples: windows back to back, an appliance in each two.
+fn print_three_seconds_observed<W: Write>(printer: &mut Printer<W>, seed: u64) -> Result<()> {
+    let setup = Setup::edition_a1(12);
+    let sources = appliances(2 * WINDOW_LENGTH, setup.system, seed);
+    let windows = sources.iter().cycle().flat_map(|signal| signal.samples.chunks(WINDOW_LENGTH));
+    let recording: Vec<i32> = windows.take(31).flatten().copied().collect();
+    printer.comment("an appliance in each two windows, with three-second values")?;
+    printer.numbers("recording", &recording)?;
+    for kind in kinds() {
+        for count in [14, 15, 16, 31] {
+            let record = printer.observe_case(&recording, (0, count), setup, kind)?;
+            print_three_second_values(printer, &record.expect("samples in range"))?;
+        }
+    }
+    Ok(())
+}
+
+/// Values whose squares have this sum, found by taking the largest again and again, if
+/// there are any such.
+fn values_of_sum(sum: u128) -> Option<[u32; THREE_SECOND_WINDOWS]> {
+    let mut rest = sum;
+    let values = std::array::from_fn(|_| {
+        let value = largest(32, |value| u128::from(value).pow(2) <= rest);
+        rest -= u128::from(value).pow(2);
+        value as u32
+    });
+    (rest == 0).then_some(values)
+}
+
+/// Sums about which a three-second value changes, or a computation of 64 bits would.
+fn edge_sums(random: &mut Random) -> Vec<u128> {
+    let windows = THREE_SECOND_WINDOWS as u128;
+    let mut values: Vec<u64> = (0..32).map(|bits| 1 << bits).collect();
+    for whole in 1..THREE_SECOND_WINDOWS as u128 {
+        // The last t with 15 × t² at most so many times 2^64.
+        values.push(largest(32, |t| windows * u128::from(t).pow(2) <= whole << 64));
+    }
+    values.extend((0..40).map(|_| u64::from(random_value(random))));
+    let squares = values.iter().map(|&t| [t.saturating_sub(1), t, t + 1]);
+    let turns = squares.flatten().map(|t| windows * u128::from(t).pow(2));
+    turns.chain((0..THREE_SECOND_WINDOWS as u128).map(|whole| whole << 64)).collect()
+}
+
+/// Records of 15 windows and more whose sums of squares lie at the edges of a
+/// three-second value, an order for each sum.
+fn print_three_second_edges<W: Write>(printer: &mut Printer<W>, random: &mut Random) -> Result<()> {
+    printer.comment("sums of squares at the edges of a three-second value")?;
+    let (fresh, _) = fresh_record(Setup::edition_2(10));
+    let sums = edge_sums(random).into_iter();
+    let about = sums.flat_map(|sum| [sum.saturating_sub(1), sum, sum + 1]);
+    let columns: Vec<_> = about.filter_map(values_of_sum).collect();
+    for part in columns.chunks(ORDER_COUNT) {
+        let windows = THREE_SECOND_WINDOWS as u64 + random.below(40);
+        let mut record = Observation { windows, ..fresh.clone() };
+        for (place, column) in part.iter().enumerate() {
+            for (row, &value) in record.latest.iter_mut().zip(column) {
+                row[place] = value;
+            }
+        }
+        printer.record(&record)?;
+        print_three_second_values(printer, &record)?;
+    }
+    printer.comment("rows of one value, and one row that differs")?;
+    let of_rows = |value: u32, last: u32| {
+        let windows = THREE_SECOND_WINDOWS as u64;
+        let mut record = Observation { windows, ..fresh.clone() };
+        record.latest.fill([value; ORDER_COUNT]);
+        record.latest[THREE_SECOND_WINDOWS - 1].fill(last);
+        record
+    };
+    for value in [0, 1, 2, 15, 65_535, 65_536, 1 << 31, u32::MAX] {
+        for last in [value, value.saturating_sub(1), value.saturating_add(1), 0, u32::MAX] {
+            let record = of_rows(value, last);
+            printer.record(&record)?;
+            printer.three_second_case(&record, 1)?;
+            printer.three_second_case(&record, ORDER_COUNT as u64)?;
+        }
+    }
+    Ok(())
+}
+
+/// Records with kept values before their row has come, which are not sound, and beside
+/// them those that are: a word of the latest rows is not 0, the last that may be, the
+/// first that may not, the last of all, or any.
+fn print_kept_values<W: Write>(printer: &mut Printer<W>, random: &mut Random) -> Result<()> {
+    printer.comment("kept values where no row has come yet, and where one has")?;
+    let all = THREE_SECOND_WINDOWS * ORDER_COUNT;
+    for windows in [0, 1, 2, 3, 7, 13, 14, 15, 16, 30, 31] {
+        let (mut record, _) = fresh_record(Setup::ALL[windows % 4]);
+        record.windows = windows as u64;
+        let words = words_of(&record);
+        let first_to_come = windows * ORDER_COUNT;
+        let any = random.below(all as u64) as usize;
+        for number in [0, first_to_come.wrapping_sub(1), first_to_come, all - 1, any] {
+            if number < all {
+                let mut words = words.clone();
+                words[LATEST_PLACE + number / 2] = 1 << (32 * (number % 2));
+                print_calls_on(printer, &record_of(&words))?;
+            }
+        }
+    }
+    Ok(())
+}
+
+/// Records with any kept values at the edges of the count of windows and of soundness.
+fn print_kept_words<W: Write>(printer: &mut Printer<W>, random: &mut Random) -> Result<()> {
+    printer.comment("any kept values")?;
+    let most = MOST_WINDOWS as usize;
+    for windows in [14, 15, 16, 29, 30, most - 16, most - 1, most, most + 1, 1 << 40] {
+        for setup in Setup::ALL {
+            let (fresh, _) = fresh_record(setup);
+            let mut words = words_of(&Observation { windows: windows as u64, ..fresh });
+            for word in &mut words[LATEST_PLACE..] {
+                *word = random.bits();
+            }
+            print_calls_on(printer, &record_of(&words))?;
+        }
+    }
+    let (fresh, _) = fresh_record(Setup::edition_2(10));
+    let mut sound = words_of(&Observation { windows: 15, ..fresh });
+    sound[LATEST_PLACE..].fill(u64::MAX);
+    print_calls_on(printer, &record_of(&sound))?;
+    for (place, word) in
+        [(0, 11), (1, 2), (3, 1 << 32), (43, 15 * LARGEST_VALUE + 1), (122, 1 << 32)]
+    {
+        let mut words = sound.clone();
+        words[place] = word;
+        print_calls_on(printer, &record_of(&words))?;
+    }
+    Ok(())
+}
+
+/// Three-second values (document 02, card 8).
+fn print_three_seconds<W: Write>(
+    printer: &mut Printer<W>,
+    random: &mut Random,
+    seed: u64,
+) -> Result<()> {
+    print_three_second_runs(printer, random)?;
+    print_three_seconds_observed(printer, seed)?;
+    print_three_second_edges(printer, random)?;
+    print_kept_values(printer, random)?;
+    print_kept_words(printer, random)
+}
+
 /// Texts that are a column or nearly one.
 fn print_columns<W: Write>(printer: &mut Printer<W>, random: &mut Random) -> Result<()> {
     let texts: [&[u8]; 24] = [
@@ -749,5 +952,6 @@ pub fn print_vectors(seed: u64, output: impl Write) -> Result<()> {
     print_class_b(printer, random)?;
     print_other_letters(printer)?;
     print_edition_a1(printer, random)?;
-    print_setups(printer)
+    print_setups(printer)?;
+    print_three_seconds(printer, random, seed)
 }

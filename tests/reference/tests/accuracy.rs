@@ -1,12 +1,14 @@
 //! Demand 3 tried on windows, under both editions: group values lie within 7 units
-//! of the exact groups, and smoothed values within 12 of the exact smoothing.
+//! of the exact groups, and smoothed values within 12 of the exact smoothing. Three-second
+//! values lie within 8 of the exact ones (document 02, card 8).
 
-use reference::exact_group::exact_lines;
+use reference::exact_group::{ExactGroup, exact_lines};
 use reference::groups::{Kind, group_row, group_value};
 use reference::observation::{add_row, fresh_record};
 use reference::rows::Setup;
 use reference::signals::{Signal, motor_drive, noise, noise_of_ends, pulse, square_wave, tone};
 use reference::spectrum::{WINDOW_LENGTH, lines_of};
+use reference::three_seconds::three_second_value;
 
 fn setups_and_orders() -> impl Iterator<Item = (Setup, u64)> {
     Setup::ALL.into_iter().flat_map(|setup| (1..=40).map(move |order| (setup, order)))
@@ -82,5 +84,37 @@ fn smoothed_values_lie_within_12_units_of_the_exact_smoothing() {
             }
         }
         assert_eq!(records.each_ref().map(|(record, _)| record.windows), [seed + 1; 2]);
+    }
+}
+
+#[test]
+fn three_second_values_lie_within_8_units_of_the_exact_ones() {
+    // Noise of a few counts, where rounding weighs most, and of all counts.
+    let sizes = [1, 1, 1, 2, 3, 131_071];
+    let windows: Vec<Vec<i32>> = (0..17)
+        .map(|seed| noise(WINDOW_LENGTH, sizes[seed as usize % sizes.len()], 200 + seed).samples)
+        .collect();
+    let lines: Vec<_> = windows.iter().map(|window| lines_of(window, 0).unwrap()).collect();
+    let exact: Vec<_> = windows.iter().map(|window| exact_lines(window)).collect();
+    for kind in [Kind::Component, Kind::HarmonicGroup] {
+        for setup in [Setup::edition_2(10), Setup::edition_a1(12)] {
+            let (mut record, _) = fresh_record(setup);
+            for (count, lines) in (1..).zip(&lines) {
+                record = add_row(record, &group_row(kind, setup, lines).unwrap()).0;
+                for order in (1..=40).filter(|_| count >= 15) {
+                    let latest = exact[count - 15..count].iter();
+                    let groups: Vec<_> =
+                        latest.map(|lines| lines.group(kind, setup, order)).collect();
+                    let value = three_second_value(&record, order).unwrap();
+                    let sum = ExactGroup::sum(&groups);
+                    assert!(sum.is_near_three_seconds(value), "{kind:?} {setup:?} {order}");
+                    // One unit past the margin is not near.
+                    let root = sum.root_in_thousandths() as f64 / 15.0_f64.sqrt() / 1_000.0;
+                    assert!((root - value as f64).abs() <= 8.0);
+                    assert!(!sum.is_near_three_seconds(root as u64 + 9));
+                    assert!(root < 9.0 || !sum.is_near_three_seconds(root as u64 - 8));
+                }
+            }
+        }
     }
 }

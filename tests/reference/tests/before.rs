@@ -1,11 +1,14 @@
-//! Nothing of before changes. All that stood among the test cases before there was
-//! an edition stands there still, in the same order, under edition 2 (document 02,
-//! card 7: the others, and all under edition 2, "as now"); without the edition it is
-//! byte for byte what it was. "A class A user sees the verdicts of before" (card 1):
-//! of these lines, the limits and verdicts that stood there before there was a class
-//! letter are the first, with the letter A; without it they are what they were.
+//! Nothing of before changes. All that stood among the test cases before a record kept
+//! its latest rows (document 02, card 8) stands there still, in the same order; without
+//! the words of these rows it is byte for byte what it was. Of these lines, all that
+//! stood there before there was an edition is under edition 2 (card 7: the others, and
+//! all under edition 2, "as now"); without the edition it is what it was. "A class A user
+//! sees the verdicts of before" (card 1): of those, the limits and verdicts that stood
+//! there before there was a class letter are the first, with the letter A; without it
+//! they are what they were.
 
 use reference::vectors::print_vectors;
+use reference::words::{LATEST_PLACE, RECORD_WORDS};
 
 /// How many lines, and the 64-bit FNV-1a digest of their bytes, each line with its
 /// newline.
@@ -15,8 +18,10 @@ struct Digest {
     digest: u64,
 }
 
-/// Of all lines but comments that `reference vectors 1` printed before card 7.
-const ALL: Digest = Digest { lines: 18_266, digest: 0x2c7e_1dad_195f_01c2 };
+/// Of all lines but comments that `reference vectors 1` printed before card 8.
+const WITHOUT_LATEST: Digest = Digest { lines: 28_145, digest: 0xf5ce_c8ae_1b50_87d6 };
+/// Of those that it printed before card 7.
+const WITHOUT_EDITION: Digest = Digest { lines: 18_266, digest: 0x2c7e_1dad_195f_01c2 };
 /// Of the lines `limit` and `verdict`, in their order, that `reference vectors 1`
 /// printed before card 1: 44 and 1,521.
 const JUDGED: Digest = Digest { lines: 1_565, digest: 0x4f3d_3538_fa3b_b2a6 };
@@ -56,14 +61,30 @@ fn edition_place(word: &str) -> Option<usize> {
     }
 }
 
-/// The lines of before, without their edition. A line with another edition than 0 is
-/// left out, and so is the distortion directly after a row that is.
-fn lines_of_before() -> Vec<String> {
+/// A line without the words of the latest rows, which are the last of a record.
+fn without_latest(line: &str) -> String {
+    if word_of(line) != "record" {
+        return line.to_string();
+    }
+    let numbers: Vec<&str> = line.split(' ').skip(2).collect();
+    assert_eq!(numbers.len(), RECORD_WORDS);
+    format!("record {LATEST_PLACE} {}", numbers[..LATEST_PLACE].join(" "))
+}
+
+/// The lines of before card 8, without the latest rows.
+fn lines_without_latest() -> Vec<String> {
     let mut output = Vec::new();
     print_vectors(1, &mut output).unwrap();
     let text = String::from_utf8(output).unwrap();
+    let lines = text.lines().filter(|line| !line.starts_with('#'));
+    lines.map(without_latest).take(WITHOUT_LATEST.lines).collect()
+}
+
+/// Of these the lines of before card 7, without their edition. A line with another
+/// edition than 0 is left out, and so is the distortion directly after a row that is.
+fn lines_without_edition() -> Vec<String> {
     let (mut lines, mut after_other_row) = (Vec::new(), false);
-    for line in text.lines().filter(|line| !line.starts_with('#')) {
+    for line in &lines_without_latest() {
         let word = word_of(line);
         let (edition, line) = match edition_place(word) {
             Some(place) => without(line, place),
@@ -74,19 +95,24 @@ fn lines_of_before() -> Vec<String> {
         }
         after_other_row = edition != "0" && word == "row";
     }
-    lines.truncate(ALL.lines);
+    lines.truncate(WITHOUT_EDITION.lines);
     lines
 }
 
 #[test]
+fn but_for_the_latest_rows_all_is_as_before() {
+    assert_eq!(digest_of(&lines_without_latest()), WITHOUT_LATEST);
+}
+
+#[test]
 fn under_edition_2_all_is_as_before() {
-    assert_eq!(digest_of(&lines_of_before()), ALL);
+    assert_eq!(digest_of(&lines_without_edition()), WITHOUT_EDITION);
 }
 
 #[test]
 fn limits_and_verdicts_of_class_a_are_those_of_before() {
     let (mut judged, mut records, mut record) = (Vec::new(), Vec::new(), String::new());
-    for line in lines_of_before() {
+    for line in lines_without_edition() {
         match word_of(&line) {
             "record" => record = line,
             "limit" | "verdict" if judged.len() < JUDGED.lines => {

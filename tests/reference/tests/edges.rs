@@ -225,6 +225,7 @@ fn fresh_record_holds_zeros() {
         let (record, refusal) = fresh_record(setup);
         assert_eq!((record.setup, record.windows, refusal), (setup, 0, None));
         assert_eq!([record.smoothed, record.sum, record.peak], [[0; 40]; 3]);
+        assert_eq!(record.latest, [[0; 40]; 15]);
     }
 }
 
@@ -303,7 +304,9 @@ fn add_row_refuses_in_order_and_leaves_the_record() {
         }
         let last = row(Setup { system: 10, edition: own }, u32::MAX);
         let (after, refusal) = add_row(of(full_record(44_999)), &last);
-        assert_eq!((after, refusal), (full, None));
+        let mut latest = full.latest;
+        latest[14] = last.values;
+        assert_eq!((after, refusal), (Observation { latest, ..full }, None));
     }
 }
 

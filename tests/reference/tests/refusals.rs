@@ -14,6 +14,7 @@ use reference::observe::observe;
 use reference::refusals::{Refusal, number_or_zero};
 use reference::rows::{Row, Setup};
 use reference::spectrum::{LARGEST_LINE, WINDOW_LENGTH, lines_from, spectrum};
+use reference::three_seconds::three_second_value;
 use reference::verdict::{LARGEST_SCALE, Question, order_verdict};
 use std::collections::BTreeSet;
 use std::path::Path;
@@ -188,6 +189,11 @@ fn trials() -> Vec<Trial> {
         (5, large, |a| a.lines[510] = u64::MAX),
     ];
     let order = "order outside 1..40";
+    let orders: [Fault; 3] = [
+        (6, order, |a| a.order = 0),
+        (6, order, |a| a.order = 41),
+        (6, order, |a| a.order = u64::from(u32::MAX)),
+    ];
     let limited = "order outside 2..40";
     let limited_orders: [Fault; 4] = [
         (6, limited, |a| a.order = 0),
@@ -210,11 +216,14 @@ fn trials() -> Vec<Trial> {
         (7, unsound, |a| a.record.sum[20] = u64::MAX),
         (7, unsound, |a| a.record.peak[39] = 1 << 32),
     ];
+    // A value in the row of window 15, with 14 windows.
+    let kept: [Fault; 1] = [(7, unsound, |a| (a.record.windows, a.record.latest[0][39]) = (14, 1))];
     let other = "system or edition differs from the record's";
     let other_system: [Fault; 1] = [(8, other, |a| a.record.setup.system = 12)];
     let other_edition: [Fault; 1] = [(8, other, |a| a.record.setup.edition = 1)];
     let full: [Fault; 1] = [(9, "45,000 windows held", |a| a.record.windows = MOST_WINDOWS)];
     let scale = "K outside 1..2^28";
+    let few = "fewer than 15 windows";
     let form = "text not 8 bytes of the form";
     let (column, wide) = ("buffer not 8 bytes", "number wider than 8");
     let short_observed = "fewer than 2,048 samples from a window's start";
@@ -256,7 +265,7 @@ fn trials() -> Vec<Trial> {
             "group value",
             "value 0",
             |a| number_or_zero(&group_value(Kind::HarmonicGroup, a.setup, a.order, &a.lines)),
-            &[&setups, &[(6, order, |a| a.order = 0), (6, order, |a| a.order = 41)], &lines],
+            &[&setups, &orders, &lines],
         ),
         trial(
             "row",
@@ -273,6 +282,7 @@ fn trials() -> Vec<Trial> {
         trial("fresh record", zeros, |a| refusal_number(fresh_record(a.setup).1), &[&setups]),
         added(&[&records, &setups, &other_system, &other_edition, &full]),
         added(&[&held_edition, &setups, &other_system, &full]),
+        added(&[&kept, &setups, &other_system, &other_edition]),
         observed(&[
             &setups,
             &[
@@ -317,10 +327,23 @@ fn trials() -> Vec<Trial> {
             &[
                 &records,
                 &held_edition,
+                &kept,
                 &[(10, "no window yet", |a| a.record.windows = 0)],
                 &limited_orders,
                 &letters,
                 &[(11, scale, |a| a.scale = 0), (11, scale, |a| a.scale = LARGEST_SCALE + 1)],
+            ],
+        ),
+        trial(
+            "three-second value",
+            "value 0",
+            |a| number_or_zero(&three_second_value(&a.record, a.order)),
+            &[
+                &records,
+                &held_edition,
+                &kept,
+                &orders,
+                &[(20, few, |a| a.record.windows = 14), (20, few, |a| a.record.windows = 0)],
             ],
         ),
         trial(
@@ -371,14 +394,9 @@ fn trials() -> Vec<Trial> {
 #[test]
 fn rows_are_the_calls() {
     let listed: Vec<String> = document().into_iter().map(|row| row.call).collect();
-    let calls: BTreeSet<&str> = trials().iter().map(|trial| trial.call).collect();
-    for call in &calls {
-        let count = listed.iter().filter(|listed| listed == call).count();
-        assert_eq!(count, 1, "{DOCUMENT}: rows of {call}");
-    }
-    for call in &listed {
-        assert!(calls.contains(call.as_str()), "{DOCUMENT}: there is no call {call}");
-    }
+    let mut calls: Vec<&str> = trials().iter().map(|trial| trial.call).collect();
+    calls.dedup();
+    assert_eq!(listed, calls, "{DOCUMENT}: the calls of its rows, and those there are");
 }
 
 #[test]

@@ -27,7 +27,7 @@ fn every_refusal_of_a_call_comes_and_both_editions_are_taken() {
     let text = vectors(3);
     // The call, the place of its edition if it has one, that of its refusal, and its
     // refusals. The 9 of `observe` needs 45,001 windows.
-    let calls: [(&str, Option<usize>, usize, &[&str]); 7] = [
+    let calls: [(&str, Option<usize>, usize, &[&str]); 8] = [
         ("spectrum", None, 2, &["2", "3", "4"]),
         ("group_value", Some(2), 4, &["1", "19", "4", "5", "6"]),
         ("fresh_record", Some(1), 2, &["1", "19"]),
@@ -35,6 +35,7 @@ fn every_refusal_of_a_call_comes_and_both_editions_are_taken() {
         ("observe", Some(3), 5, &["1", "19", "2", "3"]),
         ("limit", None, 2, &["15", "6"]),
         ("verdict", None, 3, &["10", "11", "15", "6", "7"]),
+        ("three_second_value", None, 1, &["20", "6", "7"]),
     ];
     for (call, edition_place, refusal_place, refusals) in calls {
         let (mut found, mut editions) = (BTreeSet::new(), BTreeSet::new());

@@ -10,8 +10,9 @@ use mir.Syntax.{w32}
 use mir.Val.{Fits}
 use Rattle.limbs.specs.Limbs.{limbsOf}
 use Rattle.wide_numbers.specs.WideNumbers.{wideLimbs}
+use Rattle.wide_numbers.specs.Squares.{sumOfSquares}
 use Rattle.rows.specs.Orders.{orderCount}
-use Rattle.distortion.specs.Distortion.{sumOfSquares, distortionOf, distortionAnswer}
+use Rattle.distortion.specs.Distortion.{distortionOf, distortionAnswer}
 use Rattle.distortion.proofs.RowDistortion.{distortion-quotient}
 use borrow.Author.Needs.{needs}
 use Rattle.distortion.proofs.distortion.Statement.{statement}

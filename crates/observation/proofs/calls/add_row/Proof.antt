@@ -1,17 +1,42 @@
 -- `observation::calls::add_row` meets its contract, by what the refusal and the record with the row are.
-use borrow.Author.Tests.{ne-eqb}
-use Rattle.observation.specs.Calls.{addRowAnswer}
+use mathlib.Core.Path.{_≡_, ap, _∙_}
+use mathlib.Core.Bool.{not}
+use mathlib.Core.List.{_∷_}
 use borrow.Author.Needs.{needs}
+use borrow.Author.Tests.{ne-eqb}
+use Rattle.refusals.specs.Numbers.{unsoundRecord}
+use Rattle.refusals.specs.Answers.{firstFault}
+use Rattle.rows.specs.declared.Row.{Row}
+use Rattle.observation.specs.declared.Observation.{Observation}
+use Rattle.observation.specs.Calls.{rowChecks, addRowRefusal, addRowAnswer}
 use Rattle.observation.proofs.calls.add_row.Statement.{statement}
 use Rattle.observation.proofs.calls.add_row.Tie as tie
 
+-- the record and the row that the function is handed
+abbrev Handed : tie.After-row-refusal → Observation
+Handed c = c .before .before .before .before .before .before .before .before .before .args .t1
+
+abbrev RowAdded : tie.After-row-refusal → Row
+RowAdded c = c .before .before .before .before .before .before .before .before .before .args .row
+
+refusal-is : (c : tie.After-row-refusal) → c .row-refusal .result ≡ addRowRefusal (Handed c) (RowAdded c)
+unfolding addRowRefusal
+refusal-is c =
+    let o = Handed c in
+    c .row-refusal .ensures ∙
+    ap (λ sound. firstFault ((not sound, unsoundRecord) ∷ rowChecks (o .setup) (o .windows) (RowAdded c .setup)))
+    (c .before .before .is-sound .ensures)
+
 returns : tie.Need-returns
 unfolding addRowAnswer
-returns c = rw (← c .before .add-row-refusal .ensures, ne-eqb _ _ (c .if1 .taken))
+returns c = rw (← refusal-is (c .before), ne-eqb _ _ (c .if1 .taken))
+
+with-row-requires : tie.Need-with-row-requires
+with-row-requires c κs = rw (← refusal-is (c .before)) (c .if1 .left)
 
 returns-2 : tie.Need-returns-2
 unfolding addRowAnswer
-returns-2 c = rw (← c .before .before .add-row-refusal .ensures, c .before .if1 .left, c .with-row .ensures)
+returns-2 c = rw (← refusal-is (c .before .before), c .before .if1 .left, c .with-row .ensures)
 
 pub add-row-spec : {M : Type 1} → statement M
-add-row-spec = tie.close (tie.spec (λ c κs. search needs) returns (λ c κs. search needs) returns-2)
+add-row-spec = tie.close (tie.spec (λ c κs. search needs) (λ c κs. search needs) returns with-row-requires returns-2)

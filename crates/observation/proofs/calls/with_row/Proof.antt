@@ -1,5 +1,5 @@
 -- `observation::calls::with_row` meets its contract. The loop's invariant: each array is filled up to `i` with the next books, and holds the old numbers from there on.
--- The measure is the count of places that are left. The sums fit because the record is sound.
+-- The measure is the count of places that are left. The sums fit because the record is sound. The row is put among the latest after the loop.
 use mathlib.Core.Path.{_≡_, refl, _∙_, ap}
 use Prim.Native.Nat.{_≤_, _<_, _-_}
 use native.Mathlib.Omega.{arith}
@@ -82,12 +82,15 @@ loop-again c =
     )
 
 add-windows : tie.Need-add-windows Inv-loop μ-loop
-add-windows c = omega (arith, accepted (c .before .before) .row-accepted .room)
+add-windows c =
+    let after-loop = c .before .before .before .before .before .before in
+    omega (arith, accepted (after-loop .before .before) .row-accepted .room)
 
 returns : tie.Need-returns Inv-loop μ-loop
 unfolding withRow
 returns c =
-    let at-loop = c .before .before in
+    let at-put = c .before .before in
+    let at-loop = at-put .before .before .before .before .before .before in
     let o = Handed (at-loop .before) in
     let row = RowAdded (at-loop .before) in
     let sizes = long (at-loop .before) in
@@ -99,7 +102,7 @@ returns c =
     filled-whole orderCount _ (o .sum) _ (rw end at (inv .2)) (sizes .sum) in
     let peak : at-loop .loop .peak ≡ tabulate orderCount (λ j. nextBook o row j .peak) =
     filled-whole orderCount _ (o .peak) _ (rw end at (inv .3)) (sizes .peak) in
-    rw (smoothed, sum, peak)
+    rw (smoothed, sum, peak, at-put .put-row .ensures)
 
 pub with-row-spec : {M : Type 1} → statement M
 with-row-spec =
@@ -126,5 +129,7 @@ with-row-spec =
     (λ c. search needs)
     (λ c. search needs)
     loop-again
+    (λ c. search needs)
+    (λ c κs. search needs)
     add-windows
     returns)

@@ -9,10 +9,11 @@ use Rattle.observation.proofs.soundness.all_zero.Tie as tie
 returns : tie.Need-returns
 unfolding allZero noneAbove
 returns c =
-    let second = c .before .before .before .before in
-    let first = second .before .before .before .before in
+    let second = c .before .before in
+    let first = second .before .before in
+    let a = first .before .before .args in
     rw (c .any-above3 .ensures, second .any-above2 .ensures, first .any-above .ensures)
-    (allFrom-eq true (zeroTests (first .before .before .before .before .args .t1)))
+    (allFrom-eq true (zeroTests (a .smoothed .now) (a .sum .now) (a .peak .now)))
 
 pub all-zero-spec : {M : Type 1} → statement M
 all-zero-spec = tie.close (tie.spec (λ c κs. search needs) (λ c κs. search needs) (λ c κs. search needs) returns)

@@ -14,19 +14,22 @@ same-length c = search needs
 
 returns : tie.Need-returns
 returns c =
-    let put-peak = c .before .before in
+    let put-latest = c .before .before in
+    let put-peak = put-latest .before .before .before .before .before .before .before in
     let put-sum = put-peak .before .before .before .before .before .before .before in
     let put-smoothed = put-sum .before .before .before .before .before .before .before in
     let put-counts = put-smoothed .before .before .before .before .before .before .before in
-    let words = put-peak .put-part4 .last .0 in
-    sym (take-all recordWords words (omega (arith, same-length c))) ∙
+    let start = put-counts .before .before .before .before .before .before .before in
+    let words = put-latest .put-halves .last .0 in
+    sym (take-all recordWords words (omega (arith, same-length c, start .pre))) ∙
     rw (
+      put-latest .put-halves .ensures,
       put-peak .put-part4 .ensures,
       put-sum .put-part3 .ensures,
       put-smoothed .put-part2 .ensures,
       put-counts .put-part .ensures,
     )
-    (wordsOf-parts (put-counts .before .before .before .before .before .before .before .args .t1))
+    (wordsOf-parts (start .args .t1))
 
 pub write-record-spec : {M : Type 1} → statement M
 write-record-spec =
@@ -36,6 +39,7 @@ write-record-spec =
     (λ c. search needs)
     (λ c. search needs)
     (λ c. search needs)
+    (λ c κs. search needs)
     (λ c κs. search needs)
     (λ c κs. search needs)
     (λ c κs. search needs)

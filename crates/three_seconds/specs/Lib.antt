@@ -1,0 +1,2 @@
+-- The three-second value of an order.
+pub mod ThreeSecond

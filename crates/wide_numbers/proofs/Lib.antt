@@ -1,0 +1,2 @@
+-- The laws of sums of squares and their roots.
+pub mod SumsOfSquares
