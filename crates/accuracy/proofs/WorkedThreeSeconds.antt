@@ -1,5 +1,6 @@
 -- A worked list of 16 accepted rows, with refused ones after the first. It meets the hypotheses of demand 3 for every kind, both editions and any two windows in range.
--- Where all windows but the first are the pulse, the three-second value is that of the pulse whatever the first was, since it has left: 8944 in its harmonic groups, document 01's, and 2828 at order 1 under A1. With one row fewer than 15 it is refused with 20.
+-- Where all windows but the first are the pulse, the three-second value is that of the pulse whatever the first was, since it has left: 8944 in its
+-- harmonic groups, document 01's, and 2828 at order 1 under A1. With one row fewer than 15 it is refused with 20.
 use mathlib.Core.Path.{_≡_, refl, _∙_}
 use mathlib.Core.Bool.{true}
 use mathlib.Core.List.{List, _∷_, _++_}

@@ -1,4 +1,5 @@
--- The latest rows after any list of add row calls, and the three-second value that is then answered (document 02, card 8): "The figure after any run of add row calls equals the one worked afresh from the last 15 accepted rows".
+-- The latest rows after any list of add row calls, and the three-second value that is then answered (document 02, card 8): "The figure after any run of
+-- add row calls equals the one worked afresh from the last 15 accepted rows".
 use mathlib.Core.Path.{_≡_}
 use mathlib.Core.Bool.{cond}
 use mathlib.Core.List.{List, map}

@@ -1,4 +1,4 @@
--- The latest rows of a record: what a new row changes of them, and that the values of an order then are the last 15 of those that have come.
+-- The latest rows of a record: what a new row changes of their values, of those of an order and of the zeros to come; and the last values of a list where there are enough.
 use mathlib.Core.Path.{_≡_, ap, ap₂, _∙_}
 use mathlib.Core.Bool.{true}
 use mathlib.Core.List.{List, [], _∷_, _++_}
@@ -32,6 +32,7 @@ firsts values = length-tabulate orderCount _
 -- ---- a new row
 
 module _ (n : ℕ) (values latest : List ℕ) where
+  -- among 600 values
   module _ (whole : length latest ≡ valuesKept) where
     before-row : length (take (rowPlace n) latest) ≡ rowPlace n
     before-row = length-take-le (rowPlace n) latest (omega (arith, row-fits n, whole))
@@ -113,7 +114,7 @@ module _ (n : ℕ) (values latest : List ℕ) where
         (ap₂ (λ (xs : List ℕ) (x : ℕ). xs ++ (x ∷ [])) front last ∙
         rw (tabulate-first 14 kept))
 
-  -- ---- zeros where no row has come yet
+  -- ---- zeros where no row has come yet, among any count of values
 
   -- from the next row's place on nothing is changed
   drop-withLatest :

@@ -29,7 +29,9 @@ abbrev latestAt : Observation → ℕ → List ℕ
 latestAt o i = latestValues (o .windows) (o .latest) i
 
 -- one value that comes before others, each in place of the oldest
-one-first : (kept : List ℕ) (value : ℕ) (values : List ℕ) → drop (length values) (drop 1 (kept ++ (value ∷ [])) ++ values) ≡ drop (length (value ∷ values)) (kept ++ (value ∷ values))
+one-first :
+    (kept : List ℕ) (value : ℕ) (values : List ℕ) →
+    drop (length values) (drop 1 (kept ++ (value ∷ [])) ++ values) ≡ drop (length (value ∷ values)) (kept ++ (value ∷ values))
 one-first kept value values =
     let room : 1 ≤ length (kept ++ (value ∷ [])) = simp length-append (omega arith) in
     let count : 1 + length values ≡ length (value ∷ values) = omega arith in

@@ -41,14 +41,16 @@ observedUnder edition system windows smoothed sum peak =
 abbrev observed : ℕ → ℕ → ℕ → ℕ → ℕ → Observation
 observed = observedUnder 0
 
--- a record with other latest rows: of which a single value is not 0, and by the last value of each of the 15
+-- a record with other latest rows
 abbrev keeping : List ℕ → Observation → Observation
 keeping latest o =
     record { setup = o .setup; windows = o .windows; smoothed = o .smoothed; sum = o .sum; peak = o .peak; latest = latest }
 
+-- rows of which a single value is not 0
 abbrev single : ℕ → ℕ → List ℕ
 single place value = replicate place 0 ++ (value ∷ replicate (599 - place) 0)
 
+-- 15 rows by their last values, the others being 0
 abbrev lasts : List ℕ → List ℕ
 lasts values = joined (map only values)
 

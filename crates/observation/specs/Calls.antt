@@ -1,4 +1,5 @@
--- What the calls `fresh_record` and `add_row` answer (document 01, "The observation record" and the refusal table's rows of these names; document 02, card 7, for the edition, and card 8, for the latest rows).
+-- What the calls `fresh_record` and `add_row` answer (document 01, "The observation record" and the refusal table's rows of these names; document 02,
+-- card 7, for the edition, and card 8, for the latest rows).
 use mathlib.Core.Bool.{Bool, not}
 use mathlib.Core.List.{List, [], _∷_, _++_}
 use Prim.Native.Nat.{ℕ, _+_}
@@ -74,7 +75,8 @@ withRow o row =
       latest = withLatest (o .windows) (row .values) (o .latest);
     }
 
--- what a book with its own setup and count turns away, by the row's setup: 1 the row's system not 10 or 12; 19 its edition not 0 or 1; 8 one of the two differs from the record's; 9 45,000 windows held
+-- what a book with its own setup and count turns away, by the row's setup: 1 the row's system not 10 or 12; 19 its edition not 0 or 1; 8 one of the two
+-- differs from the record's; 9 45,000 windows held
 unfoldable pub rowChecks : Setup → ℕ → Setup → List (Bool × ℕ)
 rowChecks own count setup =
     setupChecks setup ++

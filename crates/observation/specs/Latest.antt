@@ -1,5 +1,6 @@
 -- The latest rows of a record (document 02, card 8: "over the latest 15 windows", "The observation record keeps these rows").
--- Their values stand in one list, 40 of each row together, and the row of the n-th accepted call, counted from 0, stands at place n modulo 15 of the rows: a new row is put where the oldest stood, and no other is moved.
+-- Their values stand in one list, 40 of each row together, and the row of the n-th accepted call, counted from 0, stands at place n modulo 15 of the
+-- rows: a new row is put where the oldest stood, and no other is moved.
 use mathlib.Core.List.{List, _++_}
 use Prim.Native.Nat.{ℕ, _+_, _*_, _%_}
 use lib.ListN.{length, getD, take, drop, replicate}

@@ -1,5 +1,5 @@
--- The margins of demand 3 in figures, at each system and under each edition: 7 units for a group value, 12 for a smoothed one, 8 for a three-second one, which is of 15 windows, and what the numbers of the three verdicts of
--- order 3 say against its limit of 2,300 mA. The claims name their numbers, and a weaker one would be proved as well; here it is refused.
+-- The margins of demand 3 in figures, at each system and under each edition: 7 units for a group value, 12 for a smoothed one, 8 for a three-second one,
+-- which is of 15 windows, and what the numbers of the three verdicts of order 3 say against its limit of 2,300 mA. The claims name their numbers, and a weaker one would be proved as well; here it is refused.
 use mathlib.Core.Path.{_≡_, refl, sym, ap, _∙_}
 use mathlib.Core.Bool.{true}
 use mathlib.Core.List.{List, map}

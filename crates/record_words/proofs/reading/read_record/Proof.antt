@@ -1,4 +1,5 @@
--- `record_words::reading::read_record` meets its contract. The loop's invariant: the smoothed values, the sums and the peaks are filled up to `i` with the words from their places on, and the rest is as it was.
+-- `record_words::reading::read_record` meets its contract. The loop's invariant: the smoothed values, the sums and the peaks are filled up to `i` with
+-- the words from their places on, and the rest is as it was.
 -- The measure is the count of orders that are left.
 use mathlib.Core.Path.{_≡_, refl}
 use mathlib.Core.List.{List}
