@@ -83,7 +83,8 @@
  *     in a word. A new row is put where the oldest stood, and nothing is moved. With the windows counted
  *     from 0, the value of order h of window n is number v = 40 * (n mod 15) + h - 1 of the 600, and value
  *     number v stands in word 123 + v / 2, in its lower 32 bits where v is even, in its upper 32 where v
- *     is odd:
+ *     is odd (rowPlace, crates/observation/specs/Latest.antt, and packed,
+ *     crates/record_words/specs/Halves.antt):
  *
  *         word    lower 32 bits          upper 32 bits
  *         123     window 0, order 1      window 0, order 2
@@ -92,9 +93,8 @@
  *         422     window 14, order 39    window 14, order 40
  *         123     window 15, order 1     window 15, order 2, in the place of window 0
  *
- *     Any value may stand where a row has come. With fewer than 15 windows the words from 123 + 20 * windows
- *     on are 0 (latestValues, crates/observation/specs/Latest.antt, and packed,
- *     crates/record_words/specs/Halves.antt).
+ *     In a sound record any value may stand where a row has come, and with fewer than 15 windows the words
+ *     from 123 + 20 * windows on are 0.
  *
  * Memory and threads
  *
@@ -329,7 +329,7 @@ uint32_t kifsang_fresh_record(uint32_t system, uint32_t edition, uint64_t *recor
  * Adds the row of one window to a record. The first row becomes the smoothed values; later
  * smoothed = (1000 * new + 7012 * old) / 8012, to the nearest, halves up. The smoothed values are
  * added to the sums, and the peaks become the greater of themselves and the smoothed values. The row
- * itself becomes one of the latest rows, where the oldest of 15 leaves.
+ * itself becomes one of the latest rows, from the 16th on in the place of the oldest.
  *
  *   record        inout  record_words words; any words may be handed over
  *   record_words  in     423

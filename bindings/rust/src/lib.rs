@@ -456,7 +456,8 @@ pub fn fresh_record(system: u32, edition: u32, record: &mut [u64]) -> Result<(),
 }
 
 /// Adds the row of one window, 40 values with their system and edition, to a record; any words may be
-/// handed over as one. The row itself becomes one of the latest rows, where the oldest of 15 leaves.
+/// handed over as one. The row itself becomes one of the latest rows, from the 16th on in the
+/// place of the oldest.
 ///
 /// Refusals: 102 not 423 words or not 40 values; 7 the record is not sound; 1 system not 10 or 12; 19
 /// edition not 0 or 1; 8 another system or another edition than the record's; 9 the record holds 45,000

@@ -1,22 +1,28 @@
--- Every list of calls whose accepted rows are worked from samples has an l book and a u book of every order, and windows of its accepted rows: what demand 3 says of all of them is never empty.
+-- Every list of calls whose accepted rows are worked from samples has an l book and a u book of every order,
+-- and windows of its last rows: what demand 3 says of all of them is never empty.
 -- The books are fed the reported value less 7 (not below 0), and plus 7.
 use mathlib.Core.Path.{_≡_, refl, ap, _∙_}
 use mathlib.Core.Bool.{true}
 use mathlib.Core.List.{List, [], _∷_, map, map-map, map-id}
 use Prim.Native.Nat.{ℕ, _+_, _-_, _<_, _≤_}
 use lib.IntN.{ℤ}
+use lib.ListN.{length}
 use Rattle.algebra.specs.Fraction.{whole, Side, lower, upper, RootBound}
 use Rattle.algebra.specs.Weighted.{Everywhere}
+use Rattle.algebra.proofs.Weighted.{everywhere-drop}
 use Rattle.rows.specs.declared.Row.{Row}
 use Rattle.rows.specs.declared.Setup.{Setup}
 use Rattle.rows.specs.Orders.{orderCount}
 use Rattle.groups.specs.declared.Kind.{Kind}
 use Rattle.groups.specs.Exact.{exactGroup}
+use Rattle.observation.specs.Latest.{rowsKept}
 use Rattle.observation.specs.BookCalls.{Fed, valueAt}
 use Rattle.accuracy.specs.Distance.{groupMargin, ValueNear}
 use Rattle.accuracy.specs.ExactBook.{exact}
 use Rattle.accuracy.specs.CallList.{CallList, accepted, acceptedRows, ExactBook}
-use Rattle.accuracy.specs.Claim.{Worked, WorkedList, Sampled, SampledRows, Feeds}
+use Rattle.accuracy.specs.WorkedRows.{Worked, Sampled, SampledRows}
+use Rattle.accuracy.specs.LatestRows.{lastRows}
+use Rattle.accuracy.specs.Claim.{WorkedList, Feeds}
 use Rattle.accuracy.proofs.AcceptedCalls.{accepted-setup, each-accepted-map}
 use Rattle.accuracy.proofs.WorkedRows.{worked-near}
 
@@ -57,7 +63,7 @@ module _ (side : Side) (order : ℕ) where
           fed = each-accepted-map callAt (λ call. call .row) _ (Feeds side kind order) (accepted list) feeds 0 (list .rows) worked;
         }
 
--- ---- the windows of the accepted rows
+-- ---- the windows of rows that are worked from samples
 
 module _ (kind : Kind) where
   abbrev FromSamples : Row → Type 0
@@ -77,11 +83,13 @@ module _ (kind : Kind) where
   sampledOf-worked [] from = tt
   sampledOf-worked (row ∷ rows) from = (from .0 .1, sampledOf-worked rows (from .1))
 
-  pub samples-exist : (list : CallList) → WorkedList kind list → SampledRows kind list
+  -- of the last rows of a list
+  pub samples-exist : (list : CallList) → WorkedList kind list → SampledRows kind (lastRows list)
   unfolding WorkedList
   samples-exist list worked =
+      let from = everywhere-drop FromSamples (length (acceptedRows list) - rowsKept) (acceptedRows list) worked in
       record {
-        sampled = sampledOf (acceptedRows list) worked;
-        same-rows = sampledOf-rows (acceptedRows list) worked;
-        worked = sampledOf-worked (acceptedRows list) worked;
+        sampled = sampledOf (lastRows list) from;
+        same-rows = sampledOf-rows (lastRows list) from;
+        worked = sampledOf-worked (lastRows list) from;
       }

@@ -16,7 +16,6 @@ use Rattle.accuracy.proofs.GroupDistance.{weights-near, groups-near}
 use Rattle.accuracy.proofs.WorkedRows.{worked-list-fits, order-book-near}
 use Rattle.accuracy.proofs.Verdicts.{verdict-keeps, given-verdict}
 use Rattle.accuracy.proofs.LatestRows.{latest-holds}
-use Rattle.accuracy.proofs.ThreeSeconds.{three-second-near}
 use Rattle.accuracy.proofs.ObservedRows.{observed-setup, observed-record, observed-windows, observed-worked}
 
 module _ (kind : Kind) (list : CallList) (known : isSetup (list .setup) ≡ true) (worked : WorkedList kind list) where
@@ -41,7 +40,6 @@ module _ (kind : Kind) (list : CallList) (known : isSetup (list .setup) ≡ true
         smoothed-high = λ order positive le book.
             omega (arith, order-book-near _ kind list order positive le book .smoothed-near .within);
         latest = latest-holds list known (worked-list-fits kind list worked);
-        three-second-near = three-second-near kind list known worked;
         verdicts = λ q asked.
             let call = accepted (after list) q asked in
             let positive : 0 < q .order = omega arith in

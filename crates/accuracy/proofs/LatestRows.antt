@@ -1,12 +1,13 @@
--- The latest rows and the three-second value after any list of calls whose accepted rows hold values of 32 bits.
+-- The latest rows and the three-second value after any list of calls whose accepted rows hold values of 32 bits, and its distance from the exact one.
 use mathlib.Core.Path.{_≡_}
 use mathlib.Core.Bool.{true, cond}
-use Prim.Native.Nat.{_-_}
+use Prim.Native.Nat.{_-_, _≤_}
 use native.Mathlib.Omega.{arith}
 use borrow.Author.Tests.{lt-ltb, le-ltb, le-leb}
 use lib.Dec.{ltb}
 use lib.ListN.{length}
-use Rattle.refusals.specs.Numbers.{noRefusal}
+use Rattle.refusals.specs.Numbers.{noRefusal, tooFewWindows}
+use Rattle.refusals.specs.Answers.{answer}
 use Rattle.rows.specs.Setups.{isSetup}
 use Rattle.rows.specs.Orders.{orderCount, isOrder}
 use Rattle.observation.specs.Soundness.{isSound}
@@ -14,10 +15,11 @@ use Rattle.observation.specs.Latest.{rowsKept, latestValues}
 use Rattle.observation.specs.BookCalls.{AcceptedFit}
 use Rattle.observation.proofs.SoundRecord.{fresh-record-after-sound}
 use Rattle.observation.proofs.LatestAfter.{fresh-record-after-windows, fresh-record-after-latest}
-use Rattle.three_seconds.specs.ThreeSecond.{threeSecondRefusal, threeSecondAnswer}
+use Rattle.three_seconds.specs.ThreeSecond.{threeSecondOf, threeSecondRefusal, threeSecondAnswer}
 use Rattle.accuracy.specs.Distance.{EveryOrder}
 use Rattle.accuracy.specs.CallList.{CallList, after, acceptedRows}
 use Rattle.accuracy.specs.LatestRows.{lastValues, LatestHolds}
+use Rattle.accuracy.proofs.ThreeSeconds.{last-figure-near}
 
 module _ (list : CallList) (known : isSetup (list .setup) ≡ true) (fits : AcceptedFit (list .setup) 0 (list .rows)) where
   sound-after : isSound (after list) ≡ true
@@ -36,17 +38,24 @@ module _ (list : CallList) (known : isSetup (list .setup) ≡ true) (fits : Acce
   unfolding isOrder
   known-order order positive le = rw (lt-ltb 0 order positive, le-leb order orderCount le)
 
-  asked : EveryOrder (λ order. threeSecondRefusal (after list) order ≡ cond (ltb (length (acceptedRows list)) rowsKept) 20 noRefusal)
+  asked : EveryOrder (λ order. threeSecondRefusal (after list) order ≡ cond (ltb (length (acceptedRows list)) rowsKept) tooFewWindows noRefusal)
   unfolding threeSecondRefusal
   asked order positive le = rw (sound-after, known-order order positive le, windows-kept)
 
-  pub latest-holds : LatestHolds list
+  answered : EveryOrder (λ order.
+      rowsKept ≤ length (acceptedRows list) →
+      threeSecondAnswer (after list) order ≡ answer noRefusal (threeSecondOf (lastValues list order)))
   unfolding threeSecondAnswer
+  answered order positive le enough =
+      rw (asked order positive le, le-ltb (length (acceptedRows list)) rowsKept enough, latest-kept order positive le)
+
+  pub latest-holds : LatestHolds list
   latest-holds =
       record {
         same-windows = windows-kept;
         same-latest = latest-kept;
         asked = asked;
-        answered = λ order positive le enough.
-            rw (asked order positive le, le-ltb (length (acceptedRows list)) rowsKept enough, latest-kept order positive le);
+        answered = answered;
+        near = λ kind order positive le enough samples.
+            rw (answered order positive le enough) (last-figure-near list fits kind order positive le samples enough);
       }

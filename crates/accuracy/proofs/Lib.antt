@@ -5,9 +5,9 @@ pub mod Books
 pub mod WorkedRows
 pub mod Verdicts
 pub mod ObservedRows
-pub mod LatestRows
 pub mod ThreeSecondDistance
 pub mod ThreeSeconds
+pub mod LatestRows
 pub mod Demand3
 pub mod BooksExist
 pub mod VerdictsGiven

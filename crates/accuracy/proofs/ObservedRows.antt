@@ -19,7 +19,8 @@ use Rattle.observation.proofs.SoundRecord.{sound-parts, fresh-of-known}
 use Rattle.observe.specs.Observe.{windowStart, windowRows, observeRefusal, observeAnswer}
 use Rattle.observe.proofs.Observed.{calls-follow, calls-accepted}
 use Rattle.accuracy.specs.CallList.{after}
-use Rattle.accuracy.specs.Claim.{Worked, WorkedList, observedList}
+use Rattle.accuracy.specs.WorkedRows.{Worked}
+use Rattle.accuracy.specs.Claim.{WorkedList, observedList}
 use Rattle.accuracy.proofs.AcceptedCalls.{each-accepted-everywhere}
 
 module _

@@ -12,7 +12,7 @@ use Rattle.algebra.specs.Weighted.{sumOver, Everywhere}
 use Rattle.algebra.proofs.Fraction.{≤ᶠ-refl, +ᶠ-≤ᶠ, whole-add}
 use Rattle.algebra.proofs.Weighted.{triangle-lt, sumOver-eq, everywhere-all}
 use Rattle.accuracy.specs.Distance.{groupMargin, WithinMargin}
-use Rattle.accuracy.specs.Claim.{threeSecondMargin}
+use Rattle.accuracy.specs.LatestRows.{threeSecondMargin}
 
 module _ {A : Type 0} where
   -- ---- sums of squares of whole numbers
@@ -31,7 +31,8 @@ module _ {A : Type 0} where
   squares-of-same m [] = omega arith
   squares-of-same m (p ∷ places) = omega (arith, squares-of-same m places)
 
-  -- numbers that are at most m above others: where the squares of these add up to less than n × r², those of the first add up to less than n × (r + m)²
+  -- numbers that are at most m above others: where the squares of these add up to less
+  -- than n × r², those of the first add up to less than n × (r + m)²
   squares-shifted :
       (high low : A → ℕ) (m : ℕ) → ((p : A) → high p ≤ low p + m) → (places : List A) (r : ℕ) →
       squaresOf low places < length places * (r * r) →

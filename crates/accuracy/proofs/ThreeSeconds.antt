@@ -1,4 +1,4 @@
--- The three-second value after a list of calls whose accepted rows are worked from samples is within 8 units of the exact one.
+-- The figure of the last 15 accepted rows of a list is within 8 units of the exact three-second value of the windows that these rows are worked from.
 use mathlib.Core.Path.{_≡_, refl, sym, ap, _∙_}
 use mathlib.Core.Bool.{true}
 use mathlib.Core.List.{List, [], _∷_, map, map-map}
@@ -7,23 +7,24 @@ use native.Mathlib.Omega.{arith, by-contra}
 use lib.ListN.{length, getD, drop, length-drop, length-map}
 use Rattle.algebra.specs.Weighted.{sumOver, Everywhere}
 use Rattle.algebra.proofs.Weighted.{everywhere-imp, everywhere-both, everywhere-drop, everywhere-of-map}
+use Rattle.rows.specs.declared.Row.{Row}
+use Rattle.rows.specs.Orders.{orderCount}
 use Rattle.rows.specs.Setups.{isSetup}
 use Rattle.rows.specs.Rows.{largestValue, ValuesFit}
 use Rattle.wide_numbers.specs.Squares.{sumOfSquares}
 use Rattle.groups.specs.declared.Kind.{Kind}
 use Rattle.groups.specs.Exact.{exactGroup}
 use Rattle.observation.specs.Latest.{rowsKept, lastOf}
-use Rattle.observation.specs.BookCalls.{valueAt}
+use Rattle.observation.specs.BookCalls.{valueAt, AcceptedFit}
 use Rattle.observation.proofs.Latest.{lastOf-enough}
-use Rattle.three_seconds.specs.ThreeSecond.{threeSecondOf, threeSecondAnswer}
+use Rattle.three_seconds.specs.ThreeSecond.{threeSecondOf}
 use Rattle.three_seconds.proofs.ThreeSecond.{threeSecondOf-passes, threeSecondOf-greatest}
-use Rattle.accuracy.specs.Distance.{groupMargin, EveryOrder, WithinMargin}
-use Rattle.accuracy.specs.CallList.{CallList, after, accepted, acceptedRows}
-use Rattle.accuracy.specs.LatestRows.{lastValues}
-use Rattle.accuracy.specs.Claim.{WorkedList, Sampled, SampledRows, threeSecondMargin, latestSampled, exactThreeSecond}
+use Rattle.accuracy.specs.Distance.{groupMargin, WithinMargin}
+use Rattle.accuracy.specs.CallList.{CallList, accepted, acceptedRows}
+use Rattle.accuracy.specs.WorkedRows.{Sampled, SampledRows}
+use Rattle.accuracy.specs.LatestRows.{threeSecondMargin, exactThreeSecond, lastRows, lastValues}
 use Rattle.accuracy.proofs.AcceptedCalls.{accepted-setup, each-accepted-carry}
-use Rattle.accuracy.proofs.WorkedRows.{worked-fits, worked-near, worked-list-fits}
-use Rattle.accuracy.proofs.LatestRows.{latest-holds}
+use Rattle.accuracy.proofs.WorkedRows.{worked-fits, worked-near}
 use Rattle.accuracy.proofs.ThreeSecondDistance.{mean-near}
 
 -- ---- lists that are made of others
@@ -44,80 +45,64 @@ module _ {A : Type 0} (f : A → ℕ) where
   squares-made [] = refl
   squares-made (p ∷ places) = ap (λ n. f p * f p + n) (squares-made places)
 
-module _ (kind : Kind) (list : CallList) (known : isSetup (list .setup) ≡ true) (worked : WorkedList kind list) where
-  -- the accepted rows have known setups
-  known-setups : Everywhere (λ row. isSetup (row .setup) ≡ true) (acceptedRows list)
-  unfolding WorkedList
+module _ (list : CallList) (fits : AcceptedFit (list .setup) 0 (list .rows)) where
+  -- the last rows have known setups, as all accepted ones
+  known-setups : Everywhere (λ row. isSetup (row .setup) ≡ true) (lastRows list)
   known-setups =
-      each-accepted-carry (λ row. row) _ (λ row. isSetup (row .setup) ≡ true) (accepted list)
-      (λ count row taken from. accepted-setup list count row taken)
-      0 (list .rows) worked
+      everywhere-drop (λ (row : Row). isSetup (row .setup) ≡ true) (length (acceptedRows list) - rowsKept) (acceptedRows list)
+      (each-accepted-carry (λ row. row) ValuesFit (λ row. isSetup (row .setup) ≡ true) (accepted list)
+      (λ count row taken fit. accepted-setup list count row taken)
+      0 (list .rows) fits)
 
-  module _ (samples : SampledRows kind list) (order : ℕ) (positive : 0 < order) (le : order ≤ 40) where
+  module _ (kind : Kind) (order : ℕ) (positive : 0 < order) (le : order ≤ orderCount) (samples : SampledRows kind (lastRows list)) where
     -- what a sampled row holds of the order
     value : Sampled → ℕ
     value s = valueAt (order - 1) (s .row)
 
-    recent : List Sampled
-    recent = latestSampled (samples .sampled)
-
-    near : Everywhere (λ s. WithinMargin groupMargin (value s) (exactGroup kind (s .row .setup) order (s .window))) recent
-    unfolding value recent
-    near =
-        everywhere-drop _ (length (samples .sampled) - rowsKept) (samples .sampled)
-        (everywhere-both _ _ _
+    values-near :
+        Everywhere (λ s. WithinMargin groupMargin (value s) (exactGroup kind (s .row .setup) order (s .window))) (samples .sampled)
+    unfolding value
+    values-near =
+        everywhere-both _ _ _
         (λ s is-setup from. worked-near kind (s .row) (s .window) from is-setup order positive le)
         (samples .sampled)
         (everywhere-of-map (λ (s : Sampled). s .row) (λ row. isSetup (row .setup) ≡ true) (samples .sampled) (rw (samples .same-rows) known-setups))
-        (samples .worked))
+        (samples .worked)
 
-    fits : Everywhere (λ s. value s ≤ largestValue) recent
-    unfolding value recent ValuesFit
-    fits =
-        everywhere-drop _ (length (samples .sampled) - rowsKept) (samples .sampled)
-        (everywhere-imp _ _ (λ s from. worked-fits kind (s .row) (s .window) from (order - 1)) (samples .sampled) (samples .worked))
+    values-le : Everywhere (λ s. value s ≤ largestValue) (samples .sampled)
+    unfolding value ValuesFit
+    values-le = everywhere-imp _ _ (λ s from. worked-fits kind (s .row) (s .window) from (order - 1)) (samples .sampled) (samples .worked)
 
     module _ (enough : rowsKept ≤ length (acceptedRows list)) where
-      same-count : length (samples .sampled) ≡ length (acceptedRows list)
-      same-count = sym (length-map (samples .sampled) (λ s. s .row)) ∙ ap length (samples .same-rows)
-
-      fifteen : length recent ≡ rowsKept
-      unfolding recent
-      fifteen = simp length-drop (omega (arith, same-count, enough))
+      fifteen : length (samples .sampled) ≡ rowsKept
+      fifteen =
+          let count = length-map (samples .sampled) (λ s. s .row) in
+          let rows : length (lastRows list) ≡ rowsKept = simp length-drop (omega (arith, enough)) in
+          sym count ∙ (ap length (samples .same-rows) ∙ rows)
 
       -- the last values of the list are those of these rows
-      last-values : lastValues list order ≡ map value recent
-      unfolding value recent
+      last-values : lastValues list order ≡ map value (samples .sampled)
+      unfolding value
       last-values =
-          let of-sampled : map (valueAt (order - 1)) (acceptedRows list) ≡ map value (samples .sampled) =
-          rw (← samples .same-rows) (map-map (valueAt (order - 1)) (λ s. s .row) (samples .sampled)) in
-          let count = length-map (samples .sampled) value in
-          ap lastOf of-sampled ∙
-          (lastOf-enough (map value (samples .sampled)) (omega (arith, count, same-count, enough)) ∙
-          rw count (drop-made value (length (samples .sampled) - rowsKept) (samples .sampled)))
+          let own = valueAt (order - 1) in
+          let count = length-map (acceptedRows list) own in
+          lastOf-enough (map own (acceptedRows list)) (omega (arith, count, enough)) ∙
+          rw (count, drop-made own (length (acceptedRows list) - rowsKept) (acceptedRows list), ← samples .same-rows)
+          (map-map own (λ s. s .row) (samples .sampled))
 
-      figure-near : WithinMargin threeSecondMargin (threeSecondOf (map value recent)) (exactThreeSecond kind order (samples .sampled))
-      unfolding exactThreeSecond recent
-      figure-near =
-          let values = map value recent in
+      pub last-figure-near : WithinMargin threeSecondMargin (threeSecondOf (lastValues list order)) (exactThreeSecond kind order (samples .sampled))
+      unfolding exactThreeSecond
+      last-figure-near =
+          let sampled = samples .sampled in
+          let values = map value sampled in
           let t = threeSecondOf values in
-          let whole : length values ≡ rowsKept = length-map recent value ∙ fifteen in
-          let fit : (i : ℕ) → getD values i 0 < 2 ^ 32 = λ i. omega (arith, getD-made-le value largestValue recent fits i) in
+          let whole : length values ≡ rowsKept = length-map sampled value ∙ fifteen in
+          let fit : (i : ℕ) → getD values i 0 < 2 ^ 32 = λ i. omega (arith, getD-made-le value largestValue sampled values-le i) in
           let below = threeSecondOf-passes values whole fit in
           let above : sumOfSquares values < rowsKept * (suc t * suc t) =
           by-contra (suc (sumOfSquares values)) (rowsKept * (suc t * suc t)) λ l.
           omega (arith, threeSecondOf-greatest values whole fit (suc t) (omega arith)) in
-          mean-near value (λ s. exactGroup kind (s .row .setup) order (s .window)) recent rowsKept _ t fifteen near
-          (rw (squares-made value recent) at below)
-          (rw (squares-made value recent) at above)
-
-pub three-second-near :
-    (kind : Kind) (list : CallList) → isSetup (list .setup) ≡ true → WorkedList kind list →
-    EveryOrder (λ order.
-    rowsKept ≤ length (acceptedRows list) →
-    (samples : SampledRows kind list) →
-    WithinMargin threeSecondMargin (threeSecondAnswer (after list) order .value) (exactThreeSecond kind order (samples .sampled)))
-three-second-near kind list known worked order positive le enough samples =
-    let answered = latest-holds list known (worked-list-fits kind list worked) .answered order positive le enough in
-    rw (answered, last-values kind list known worked samples order positive le enough)
-    (figure-near kind list known worked samples order positive le enough)
+          rw last-values
+          (mean-near value (λ s. exactGroup kind (s .row .setup) order (s .window)) sampled rowsKept _ t fifteen values-near
+          (rw (squares-made value sampled) at below)
+          (rw (squares-made value sampled) at above))

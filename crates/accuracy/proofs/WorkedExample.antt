@@ -48,7 +48,8 @@ use Rattle.observation.specs.Average.{averageOf, peakOf}
 use Rattle.accuracy.specs.Distance.{EveryOrder, InRange, valueOf}
 use Rattle.accuracy.specs.Rule.{reportedAverage}
 use Rattle.accuracy.specs.CallList.{CallList, after, reportedFrom}
-use Rattle.accuracy.specs.Claim.{Worked, WorkedList, ListHolds, reportedBook}
+use Rattle.accuracy.specs.WorkedRows.{Worked}
+use Rattle.accuracy.specs.Claim.{WorkedList, ListHolds, reportedBook}
 use Rattle.accuracy.proofs.Demand3.{demand3}
 use Rattle.accuracy.proofs.VerdictsGiven.{given-in}
 

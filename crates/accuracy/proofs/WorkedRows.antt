@@ -22,7 +22,8 @@ use Rattle.observation.specs.Smoothing.{smoothedMargin}
 use Rattle.observation.specs.BookCalls.{valueAt, AcceptedFit}
 use Rattle.accuracy.specs.Distance.{groupMargin, EveryOrder, valueOf, ValueNear, GroupsNear}
 use Rattle.accuracy.specs.CallList.{CallList, accepted, ExactBook, state}
-use Rattle.accuracy.specs.Claim.{Worked, WorkedList, Feeds, reportedBook}
+use Rattle.accuracy.specs.WorkedRows.{Worked}
+use Rattle.accuracy.specs.Claim.{WorkedList, Feeds, reportedBook}
 use Rattle.accuracy.proofs.GroupDistance.{groups-near}
 use Rattle.accuracy.proofs.AcceptedCalls.{accepted-setup, each-accepted-carry}
 use Rattle.accuracy.proofs.Books.{BookNear, margins-kept, exact-book-near}

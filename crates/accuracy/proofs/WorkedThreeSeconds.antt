@@ -1,4 +1,5 @@
--- A worked list of 16 accepted rows, with refused ones after the first. It meets the hypotheses of demand 3 for every kind, both editions and any two windows in range.
+-- A worked list of 16 accepted rows, with refused ones after the first. It meets the hypotheses of
+-- demand 3 for every kind, both editions and any two windows in range.
 -- Where all windows but the first are the pulse, the three-second value is that of the pulse whatever the first was, since it has left: 8944 in its
 -- harmonic groups, document 01's, and 2828 at order 1 under A1. With one row fewer than 15 it is refused with 20.
 use mathlib.Core.Path.{_≡_, refl, _∙_}
@@ -25,8 +26,9 @@ use Rattle.observation.specs.BookCalls.{accepts, acceptedCalls, valueAt}
 use Rattle.three_seconds.specs.ThreeSecond.{threeSecondOf, threeSecondAnswer}
 use Rattle.accuracy.specs.Distance.{InRange, valueOf}
 use Rattle.accuracy.specs.CallList.{CallList, after, acceptedRows}
-use Rattle.accuracy.specs.LatestRows.{lastValues}
-use Rattle.accuracy.specs.Claim.{Worked, WorkedList, SampledRows, ListHolds}
+use Rattle.accuracy.specs.WorkedRows.{Worked, SampledRows}
+use Rattle.accuracy.specs.LatestRows.{lastRows, lastValues}
+use Rattle.accuracy.specs.Claim.{WorkedList, ListHolds}
 use Rattle.accuracy.proofs.WorkedRows.{worked-value}
 use Rattle.accuracy.proofs.Demand3.{demand3}
 use Rattle.accuracy.proofs.BooksExist.{samples-exist}
@@ -42,6 +44,15 @@ module _ (kind : Kind) (window next : List ℤ) where
   listOf later edition =
       record { setup = setupOf 10 edition; rows = workedRow kind edition window ∷ otherRows edition ++ replicate later (workedRow kind edition next) }
 
+  -- the refused rows are not counted
+  pub sixteen-accepted : (edition : ℕ) → isEdition edition ≡ true → length (acceptedRows (listOf 15 edition)) ≡ 16
+  unfolding acceptedCalls accepts rowChecks sameSetup isSystem isEdition listOf otherRows workedRow
+  sixteen-accepted = each-edition (λ edition. length (acceptedRows (listOf 15 edition)) ≡ 16) refl refl
+
+  fourteen-accepted : (edition : ℕ) → isEdition edition ≡ true → length (acceptedRows (listOf 13 edition)) ≡ 14
+  unfolding acceptedCalls accepts rowChecks sameSetup isSystem isEdition listOf otherRows workedRow
+  fourteen-accepted = each-edition (λ edition. length (acceptedRows (listOf 13 edition)) ≡ 14) refl refl
+
   module _ (in-range : InRange window) (next-in-range : InRange next) where
     later-worked : (later edition : ℕ) → Everywhere (λ row. (w : List ℤ) × Worked kind row w) (replicate later (workedRow kind edition next))
     later-worked later edition =
@@ -54,7 +65,7 @@ module _ (kind : Kind) (window next : List ℤ) where
         ((window, worked-row kind 0 window in-range), later-worked 15 0)
         ((window, worked-row kind 1 window in-range), later-worked 15 1)
 
-    pub fourteen-worked : (edition : ℕ) → isEdition edition ≡ true → WorkedList kind (listOf 13 edition)
+    fourteen-worked : (edition : ℕ) → isEdition edition ≡ true → WorkedList kind (listOf 13 edition)
     unfolding WorkedList acceptedCalls accepts rowChecks sameSetup isSystem isEdition listOf otherRows workedRow
     fourteen-worked =
         each-edition (λ edition. WorkedList kind (listOf 13 edition))
@@ -62,7 +73,9 @@ module _ (kind : Kind) (window next : List ℤ) where
         ((window, worked-row kind 1 window in-range), later-worked 13 1)
 
     -- demand 3 holds of the 16, and there are windows of its rows that the exact three-second value is worked from
-    sixteen-holds : (edition : ℕ) → isEdition edition ≡ true → ListHolds kind (listOf 15 edition) × SampledRows kind (listOf 15 edition)
+    pub sixteen-holds :
+        (edition : ℕ) → isEdition edition ≡ true →
+        ListHolds kind (listOf 15 edition) × SampledRows kind (lastRows (listOf 15 edition))
     unfolding isSetup isSystem listOf
     sixteen-holds edition known =
         let worked = sixteen-worked edition known in
@@ -85,15 +98,6 @@ module _ (window : List ℤ) (in-range : InRange window) where
       (λ edition. lastValues (pulses 15 edition) order ≡ replicate 15 (valueAt (order - 1) (workedRow HarmonicGroup edition pulse)))
       refl refl
 
-  -- 16 rows are accepted, and 14 where there are two fewer
-  counts :
-      (edition : ℕ) → isEdition edition ≡ true →
-      (length (acceptedRows (pulses 15 edition)) ≡ 16) × (length (acceptedRows (pulses 13 edition)) ≡ 14)
-  unfolding acceptedCalls accepts rowChecks sameSetup isSystem isEdition listOf otherRows workedRow
-  counts =
-      each-edition (λ edition. (length (acceptedRows (pulses 15 edition)) ≡ 16) × (length (acceptedRows (pulses 13 edition)) ≡ 14))
-      (refl, refl) (refl, refl)
-
   -- what is answered of an order whose value is known
   answered :
       (order edition value : ℕ) → 0 < order → order ≤ 40 → isEdition edition ≡ true →
@@ -105,7 +109,7 @@ module _ (window : List ℤ) (in-range : InRange window) where
       let holds = sixteen-holds HarmonicGroup window pulse in-range pulse-window edition known .0 .latest in
       let of-pulse : valueAt (order - 1) row ≡ value =
       worked-value HarmonicGroup row pulse (worked-row HarmonicGroup edition pulse pulse-window) order positive le ∙ is in
-      holds .answered order positive le (omega (arith, counts edition known .0)) ∙
+      holds .answered order positive le (omega (arith, sixteen-accepted HarmonicGroup window pulse edition known)) ∙
       rw (last-values order edition known, of-pulse)
 
   -- order 3 under both editions, and order 1 under each
@@ -123,9 +127,11 @@ module _ (window : List ℤ) (in-range : InRange window) where
   )
 
   -- after 14 accepted rows every order is refused with 20
-  pulse-refused : (order edition : ℕ) → 0 < order → order ≤ 40 → isEdition edition ≡ true → threeSecondAnswer (after (pulses 13 edition)) order ≡ answer 20 0
+  pulse-refused :
+      (order edition : ℕ) → 0 < order → order ≤ 40 → isEdition edition ≡ true →
+      threeSecondAnswer (after (pulses 13 edition)) order ≡ answer 20 0
   unfolding isSetup isSystem listOf threeSecondAnswer
   pulse-refused order edition positive le known =
       let worked = fourteen-worked HarmonicGroup window pulse in-range pulse-window edition known in
       let holds = demand3 .lists HarmonicGroup (pulses 13 edition) known worked .latest in
-      rw (holds .asked order positive le, counts edition known .1)
+      rw (holds .asked order positive le, fourteen-accepted HarmonicGroup window pulse edition known)

@@ -3,25 +3,18 @@
 use mathlib.Core.Path.{_≡_}
 use mathlib.Core.Bool.{true}
 use mathlib.Core.Logic.{_⊎_}
-use mathlib.Core.List.{List, map}
-use Prim.Native.Nat.{ℕ, _+_, _-_, _≤_}
-use native.Mathlib.Omega.{arith}
+use mathlib.Core.List.{List}
+use Prim.Native.Nat.{ℕ, _+_, _-_}
 use lib.IntN.{ℤ}
-use lib.ListN.{length, drop}
-use Rattle.algebra.specs.Fraction.{Fraction, whole, divide, sumᶠ, Side, lower, upper, RootBound, _+ᶠ_, _≤ᶠ_}
-use Rattle.algebra.specs.Weighted.{Everywhere}
+use Rattle.algebra.specs.Fraction.{whole, Side, lower, upper, RootBound, _+ᶠ_, _≤ᶠ_}
 use Rattle.refusals.specs.Numbers.{noRefusal}
-use Rattle.spectrum.specs.Line.{linesOf}
-use Rattle.rows.specs.declared.Row.{Row}
 use Rattle.rows.specs.Setups.{isSetup}
 use Rattle.rows.specs.declared.Setup.{Setup}
 use Rattle.groups.specs.declared.Kind.{Kind}
-use Rattle.groups.specs.Group.{groupValues}
 use Rattle.groups.specs.Exact.{exactGroup}
 use Rattle.observation.specs.Book.{Book}
 use Rattle.observation.specs.Smoothing.{reported, smoothedMargin}
 use Rattle.observation.specs.Calls.{bookAt}
-use Rattle.observation.specs.Latest.{rowsKept}
 use Rattle.observation.specs.BookCalls.{EachAccepted, Fed, valueAt, AcceptedFit}
 use Rattle.observe.specs.Observe.{windowRows, observeRefusal, observeAnswer}
 use Rattle.limits.specs.declared.Class.{Class}
@@ -31,17 +24,12 @@ use Rattle.verdict.specs.declared.Verdict.{Verdict}
 use Rattle.verdict.specs.declared.Verdict.the-variants.{Within, Close, Over}
 use Rattle.verdict.specs.declared.VerdictAnswer.the-variants.{Given}
 use Rattle.verdict.specs.Call.{verdictRefusal, verdictAnswer, orderNumber}
-use Rattle.three_seconds.specs.ThreeSecond.{threeSecondAnswer}
-use Rattle.accuracy.specs.Distance.{EveryOrder, InRange, WithinMargin, WeightsNear, GroupsNear}
+use Rattle.accuracy.specs.Distance.{EveryOrder, WeightsNear, GroupsNear}
 use Rattle.accuracy.specs.ExactBook.{exact}
 use Rattle.accuracy.specs.Rule.{Passes, AverageExceeds, PeakExceeds, AverageTouches, PeakTouches}
-use Rattle.accuracy.specs.CallList.{CallList, after, accepted, acceptedRows, reportedFrom, ExactBook, state}
+use Rattle.accuracy.specs.CallList.{CallList, after, accepted, reportedFrom, ExactBook, state}
+use Rattle.accuracy.specs.WorkedRows.{Worked}
 use Rattle.accuracy.specs.LatestRows.{LatestHolds}
-
--- a row is worked from samples if, with its system and its edition, it holds the 40 values of the kind that are answered for the lines of one window in range
-pub record Worked (kind : Kind) (row : Row) (window : List ℤ) : Type 0 where
-  pub in-range : InRange window
-  pub values : row .values ≡ groupValues kind (row .setup) (linesOf window)
 
 -- "Accepted rows are worked from samples, all of one kind; a refused row may hold anything"
 unfoldable pub WorkedList : Kind → CallList → Type 0
@@ -54,30 +42,6 @@ Feeds side kind order call =
     (window : List ℤ) ×
     Worked kind (call .row) window ×
     RootBound side (call .value) (exactGroup kind (call .row .setup) order window)
-
--- a row with a window
-pub record Sampled : Type 0 where
-  pub row : Row
-  pub window : List ℤ
-
--- of each accepted row of a list in turn a window that it is worked from
-pub record SampledRows (kind : Kind) (list : CallList) : Type 0 where
-  pub sampled : List Sampled
-  pub same-rows : map (λ s. s .row) sampled ≡ acceptedRows list
-  pub worked : Everywhere (λ s. Worked kind (s .row) (s .window)) sampled
-
--- the units that a three-second value may be off
-abbrev pub threeSecondMargin : ℕ
-threeSecondMargin = 8
-
--- the last 15 of some
-abbrev pub latestSampled : List Sampled → List Sampled
-latestSampled sampled = drop (length sampled - rowsKept) sampled
-
--- the square of the exact three-second value: "a fifteenth of the sum of the 15 exact G"
-unfoldable pub exactThreeSecond : Kind → ℕ → List Sampled → Fraction
-exactThreeSecond kind order sampled =
-    divide (sumᶠ (map (λ s. exactGroup kind (s .row .setup) order (s .window)) (latestSampled sampled))) rowsKept (omega arith)
 
 -- the reported book of an order reads the row's value at its place
 abbrev pub reportedBook : CallList → ℕ → Book reported
@@ -109,7 +73,7 @@ module _ (kind : Kind) (list : CallList) where
     pub of-order : orderNumber verdict ≡ q .order
     pub kept : Keeps class (q .order) (q .scale) verdict
 
-  -- what holds after a list of calls, and of the verdicts then asked
+  -- what holds after a list of calls, and of the three-second values and the verdicts then asked
   pub record ListHolds : Type 0 where
     -- the record's system and edition, n, smoothed values, sums and peaks are those of the reported books
     pub same-setup : after list .setup ≡ list .setup
@@ -119,12 +83,9 @@ module _ (kind : Kind) (list : CallList) where
         (book : LBook order) → state list book .smoothed ≤ᶠ whole (reportedBook list order .smoothed + smoothedMargin))
     pub smoothed-high : EveryOrder (λ order.
         (book : UBook order) → whole (reportedBook list order .smoothed) ≤ᶠ state list book .smoothed +ᶠ whole smoothedMargin)
-    -- the latest rows and the three-second value are those of the list, and from the fifteenth accepted row on the value is within 8 units of the exact one
+    -- the latest rows and the three-second value are those of the list, and from the fifteenth accepted row on the
+    -- value is within 8 units of the exact one
     pub latest : LatestHolds list
-    pub three-second-near : EveryOrder (λ order.
-        rowsKept ≤ length (acceptedRows list) →
-        (samples : SampledRows kind list) →
-        WithinMargin threeSecondMargin (threeSecondAnswer (after list) order .value) (exactThreeSecond kind order (samples .sampled)))
     -- for every order, class and K that is not refused one of the three verdicts is given and keeps its claim
     pub verdicts : (q : Question) → verdictRefusal (after list) q ≡ noRefusal → GivenVerdict q
 

@@ -31,7 +31,8 @@ pub record InRange (window : List ℤ) : Type 0 where
   pub whole-window : length window ≡ windowLength
   pub samples : anyOf outOfRange window ≡ false
 
--- a value R against an exact square G, as with the 7 units of a group: "R less 7 (not below 0), squared, is at most G, and G is at most R plus 7, squared"
+-- a value R against an exact square G, as with the 7 units of a group: "R less 7 (not below
+-- 0), squared, is at most G, and G is at most R plus 7, squared"
 pub record WithinMargin (margin value : ℕ) (exact : Fraction) : Type 0 where
   pub not-far-below : square (whole (value - margin)) ≤ᶠ exact
   pub not-far-above : exact ≤ᶠ square (whole (value + margin))

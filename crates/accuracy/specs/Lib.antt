@@ -2,6 +2,7 @@
 pub mod Distance
 pub mod ExactBook
 pub mod CallList
+pub mod WorkedRows
 pub mod LatestRows
 pub mod Rule
 pub mod Claim

@@ -3,7 +3,7 @@ use mathlib.Core.Path.{_≡_, ap, _∙_, subst}
 use mathlib.Core.Bool.{cond}
 use mathlib.Core.List.{List, [], _∷_}
 use mathlib.Core.Option.{none}
-use Prim.Native.Nat.{ℕ, _-_}
+use Prim.Native.Nat.{ℕ, _-_, _≤_}
 use borrow.Author.Tests.{eq-eqb, le-ltb}
 use lib.Dec.{ltb}
 use lib.ListN.{length}
@@ -19,8 +19,10 @@ use Rattle.observation.specs.Latest.{rowsKept}
 use Rattle.observation.specs.Calls.{bookAt}
 use Rattle.verdict.specs.declared.Question.{Question}
 use Rattle.verdict.specs.Call.{verdictRefusal}
+use Rattle.three_seconds.specs.ThreeSecond.{threeSecondOf}
 use Rattle.accuracy.specs.Distance.{EveryOrder}
 use Rattle.accuracy.specs.CallList.{CallList, after, acceptedRows}
+use Rattle.accuracy.specs.LatestRows.{lastValues}
 use Rattle.accuracy.specs.Claim.{WorkedList, ListHolds, reportedBook, observedList}
 use Rattle.accuracy.proofs.WorkedRows.{worked-list-fits}
 use Rattle.accuracy.proofs.Demand3.{demand3}
@@ -34,29 +36,34 @@ use Rattle.exported_records.specs.ThreeSecondCall.{threeSecondCallRefusal, thre
 use Rattle.exported_answers.proofs.Handed.{own-first-none}
 use Rattle.exported_records.proofs.VerdictCases.{given-case}
 use Rattle.exported_accuracy.specs.Calls.{wordsAfter}
-use Rattle.exported_accuracy.specs.Claim.{smoothedWord, CalledVerdict, LatestWords, WordsHold, CalledObserve, ExportedDemand3Holds}
+use Rattle.exported_accuracy.specs.Claim.{smoothedWord, CalledVerdict, CalledThreeSecond, WordsHold, CalledObserve, ExportedDemand3Holds}
 use Rattle.exported_accuracy.proofs.WordsFollow.{Fit, Follows, FollowsBegun, after-whole, record-held, observed-follows, calls-follow}
 use Rattle.exported_accuracy.proofs.CalledGroups.{called-group, called-row}
 
--- the latest rows, and the three-second value that is then asked for
-latest-words : (list : CallList) (words : List ℕ) → Follows list words → Fit list → LatestWords list words
+-- the three-second value that is asked for
+called-three-second : (list : CallList) (words : List ℕ) → Follows list words → Fit list → CalledThreeSecond list words
 unfolding threeSecondCallRefusal threeSecondCallExit
-latest-words list words follows fits =
+called-three-second list words follows fits =
     let claimed = demand3 .latest list (follows .known) fits in
     let held = record-held list words follows fits in
     let asked : EveryOrder (λ order. threeSecondCallRefusal words order ≡ cond (ltb (length (acceptedRows list)) rowsKept) tooFewWindows noRefusal) =
     λ order positive le. rw (eq-eqb (length words) recordWords (follows .counted), held, claimed .asked order positive le) in
+    let left : EveryOrder (λ order.
+    rowsKept ≤ length (acceptedRows list) →
+    (before : ℕ) → threeSecondCallExit words order before ≡ threeSecondOf (lastValues list order)) =
+    λ order positive le enough before.
+    rw (
+      asked order positive le,
+      le-ltb (length (acceptedRows list)) rowsKept enough,
+      held,
+      claimed .same-latest order positive le,
+    ) in
     record {
-      held = follows .held fits;
-      claimed = claimed;
       asked = asked;
-      left = λ order positive le enough before.
-          rw (
-            asked order positive le,
-            le-ltb (length (acceptedRows list)) rowsKept enough,
-            held,
-            claimed .same-latest order positive le,
-          );
+      left = left;
+      near = λ kind order positive le enough samples before.
+          rw (left order positive le enough before)
+          (rw (claimed .answered order positive le enough) at (claimed .near kind order positive le enough samples));
     }
 
 module _
@@ -65,9 +72,6 @@ module _
   where
     fits : Fit list
     fits = worked-list-fits kind list worked
-
-    kept : LatestWords list words
-    kept = latest-words list words follows fits
 
     claimed : ListHolds kind list
     claimed = demand3 .lists kind list (follows .known) worked
@@ -107,10 +111,7 @@ module _
           claimed = claimed;
           smoothed-low = λ order positive le book. rw (smoothed-held order positive le) (claimed .smoothed-low order positive le book);
           smoothed-high = λ order positive le book. rw (smoothed-held order positive le) (claimed .smoothed-high order positive le book);
-          latest = kept;
-          three-second-near = λ order positive le enough samples before.
-              let answered = claimed .latest .answered order positive le enough in
-              rw (kept .left order positive le enough before) (rw answered at (claimed .three-second-near order positive le enough samples));
+          three-seconds = called-three-second list words follows fits;
           verdicts = called-verdict;
         }
 
@@ -132,7 +133,8 @@ exported-demand3 =
       rows = called-row;
       latest = λ words whole calls list came fits.
           let follow = calls-follow calls none words whole in
-          latest-words list _ (subst (λ begun. FollowsBegun begun (wordsAfter words calls)) came follow) fits;
+          let follows = subst (λ begun. FollowsBegun begun (wordsAfter words calls)) came follow in
+          (follows .held fits, called-three-second list _ follows fits);
       lists = λ kind words whole calls list came worked.
           let follow = calls-follow calls none words whole in
           words-hold kind list _ (subst (λ begun. FollowsBegun begun (wordsAfter words calls)) came follow) worked;

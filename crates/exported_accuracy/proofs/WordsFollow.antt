@@ -1,6 +1,6 @@
 -- The words of a record follow the list of document 01 that the calls have come to.
--- The invariant: there are 423 words, any before the first fresh record or observation; after it they are the words of the record after the list, where
--- its accepted rows hold values of 32 bits as a caller's rows do.
+-- The invariant: there are 423 words, any before the first fresh record or observation; after it they are the words of
+-- the record after the list, where its accepted rows hold values of 32 bits as a caller's rows do.
 use mathlib.Core.Path.{_≡_, refl, sym, ap}
 use mathlib.Core.Bool.{Bool, true, false, cond, not, _&&_}
 use mathlib.Core.List.{List, [], _∷_, _++_, map, append-nil}

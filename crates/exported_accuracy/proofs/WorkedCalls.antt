@@ -1,10 +1,12 @@
 -- Worked calls on the words of a record, with each kind of call and of refusal among them. They come to a list that
 -- meets the hypothesis of demand 3, for every kind, both editions, any two windows in range and any words at the beginning.
-use mathlib.Core.Path.{_≡_, refl}
+-- With 15 rows at the end the list has 16 accepted ones, and so a three-second value.
+use mathlib.Core.Path.{_≡_, refl, _∙_}
 use mathlib.Core.Bool.{true}
 use mathlib.Core.List.{List, [], _∷_}
 use mathlib.Core.Option.{none, some}
-use Prim.Native.Nat.{ℕ, _-_}
+use Prim.Native.Nat.{ℕ, _-_, _≤_}
+use native.Mathlib.Omega.{arith}
 use lib.IntN.{ℤ}
 use lib.ListN.{length, replicate}
 use Rattle.algebra.specs.Lists.{tabulate}
@@ -16,13 +18,17 @@ use Rattle.rows.specs.Editions.{isEdition}
 use Rattle.rows.specs.Setups.{setupOf, isSetup}
 use Rattle.rows.proofs.Editions.{each-edition}
 use Rattle.rows.specs.Orders.{orderCount}
-use Rattle.accuracy.specs.Distance.{InRange}
+use Rattle.accuracy.specs.Distance.{EveryOrder, InRange, WithinMargin}
+use Rattle.accuracy.specs.CallList.{acceptedRows}
+use Rattle.accuracy.specs.LatestRows.{exactThreeSecond}
 use Rattle.accuracy.proofs.WorkedExample.{workedRow, otherRows, exampleList, example-worked}
+use Rattle.accuracy.proofs.WorkedThreeSeconds.{listOf, sixteen-worked, sixteen-accepted, sixteen-holds}
 use Rattle.verdict.specs.Question.{asked}
 use Rattle.record_words.specs.Words.{recordWords}
 use Rattle.observe.specs.Observe.{windowRows, observeChecks, observeRefusal}
 use Rattle.exported_windows.specs.Kinds.{isKind, kinds}
 use Rattle.exported_accuracy.specs.Calls.{Asked, freshRecord, observeWindows, addRow, askVerdict, askThreeSecond, Call, wordsAfter, withCall, listAsked, listAtExit, listAfter}
+use Rattle.exported_records.specs.ThreeSecondCall.{threeSecondCallRefusal, threeSecondCallExit}
 use Rattle.exported_accuracy.specs.Claim.{WordsHold}
 use Rattle.exported_accuracy.proofs.ExportedDemand3.{exported-demand3}
 
@@ -31,8 +37,9 @@ abbrev lendingAll : Asked → Call
 lendingAll call = record { lent = 423; asked = call }
 
 module _ (kind : Kind) (window next : List ℤ) where
-  calls : ℕ → List Call
-  calls edition =
+  -- with the last row so many times
+  calls : ℕ → ℕ → List Call
+  calls later edition =
       let own = setupOf 10 edition in
       -- before the first fresh record, and fresh records of no system and of no edition
       lendingAll (addRow own (replicate orderCount 1)) ∷
@@ -46,7 +53,8 @@ module _ (kind : Kind) (window next : List ℤ) where
       lendingAll (observeWindows 5 (setupOf 12 edition) [] 0 0) ∷
       lendingAll (observeWindows 1 (setupOf 12 edition) [] 0 1) ∷
       lendingAll (addRow own (groupValues kind own (linesOf window))) ∷
-      -- another system, another edition, no edition, 39 values, a verdict in each class, a three-second value, a fresh record of no system and 422 words change nothing
+      -- another system, another edition, no edition, 39 values, a verdict in each class, a
+      -- three-second value, a fresh record of no system and 422 words change nothing
       lendingAll (addRow (setupOf 12 edition) (replicate orderCount 1)) ∷
       lendingAll (addRow (setupOf 10 (1 - edition)) (replicate orderCount 1)) ∷
       lendingAll (addRow (setupOf 10 2) (replicate orderCount 1)) ∷
@@ -56,21 +64,42 @@ module _ (kind : Kind) (window next : List ℤ) where
       lendingAll (askThreeSecond 3) ∷
       lendingAll (freshRecord (setupOf 0 edition)) ∷
       record { lent = 422; asked = freshRecord (setupOf 12 edition) } ∷
-      lendingAll (addRow own (groupValues kind own (linesOf next))) ∷
-      []
+      replicate later (lendingAll (addRow own (groupValues kind own (linesOf next))))
 
-  calls-come-to : (edition : ℕ) → isEdition edition ≡ true → listAfter none (calls edition) ≡ some (exampleList kind window next edition)
-  unfolding calls listAfter listAtExit listAsked withCall isKind kinds observeRefusal observeChecks windowRows isSetup isSystem isEdition groupValues tabulate exampleList workedRow otherRows
-  calls-come-to = each-edition (λ edition. listAfter none (calls edition) ≡ some (exampleList kind window next edition)) refl refl
+  calls-come-to :
+      (edition : ℕ) → isEdition edition ≡ true →
+      (listAfter none (calls 1 edition) ≡ some (exampleList kind window next edition)) ×
+      (listAfter none (calls 15 edition) ≡ some (listOf kind window next 15 edition))
+  unfolding calls listAfter listAtExit listAsked withCall isKind kinds observeRefusal observeChecks windowRows isSetup isSystem isEdition groupValues tabulate exampleList listOf workedRow otherRows
+  calls-come-to =
+      each-edition
+      (λ edition.
+      (listAfter none (calls 1 edition) ≡ some (exampleList kind window next edition)) ×
+      (listAfter none (calls 15 edition) ≡ some (listOf kind window next 15 edition)))
+      (refl, refl) (refl, refl)
 
-  calls-hold :
-      (edition : ℕ) →
-      isEdition edition ≡ true →
-      InRange window →
-      InRange next →
-      (words : List ℕ) →
-      length words ≡ recordWords →
-      WordsHold kind (exampleList kind window next edition) (wordsAfter words (calls edition))
-  calls-hold edition known in-range next-in-range words whole =
-      exported-demand3 .lists kind words whole (calls edition) _ (calls-come-to edition known)
-      (example-worked kind window next in-range next-in-range edition known)
+  module _
+      (edition : ℕ) (known : isEdition edition ≡ true) (in-range : InRange window) (next-in-range : InRange next)
+      (words : List ℕ) (whole : length words ≡ recordWords)
+    where
+      calls-hold : WordsHold kind (exampleList kind window next edition) (wordsAfter words (calls 1 edition))
+      calls-hold =
+          exported-demand3 .lists kind words whole (calls 1 edition) _ (calls-come-to edition known .0)
+          (example-worked kind window next in-range next-in-range edition known)
+
+      -- the three-second value of every order after the 16 rows is not refused, and within 8 units of the exact one
+      sixteen-calls-near :
+          EveryOrder (λ order.
+          (threeSecondCallRefusal (wordsAfter words (calls 15 edition)) order ≡ 0) ×
+          WithinMargin 8 (threeSecondCallExit (wordsAfter words (calls 15 edition)) order 0)
+          (exactThreeSecond kind order (sixteen-holds kind window next in-range next-in-range edition known .1 .sampled)))
+      sixteen-calls-near order positive le =
+          let list = listOf kind window next 15 edition in
+          let sixteen : length (acceptedRows list) ≡ 16 = sixteen-accepted kind window next edition known in
+          let enough : 15 ≤ length (acceptedRows list) = omega (arith, sixteen) in
+          let hold =
+          exported-demand3 .lists kind words whole (calls 15 edition) list (calls-come-to edition known .1)
+          (sixteen-worked kind window next in-range next-in-range edition known) .three-seconds in (
+            hold .asked order positive le ∙ rw sixteen,
+            hold .near kind order positive le enough (sixteen-holds kind window next in-range next-in-range edition known .1) 0,
+          )

@@ -25,8 +25,9 @@ use Rattle.verdict.specs.Call.{orderNumber}
 use Rattle.three_seconds.specs.ThreeSecond.{threeSecondOf}
 use Rattle.accuracy.specs.Distance.{EveryOrder, WithinMargin, ValueNear}
 use Rattle.accuracy.specs.CallList.{CallList, after, acceptedRows, state}
-use Rattle.accuracy.specs.LatestRows.{lastValues, LatestHolds}
-use Rattle.accuracy.specs.Claim.{Worked, WorkedList, LBook, UBook, Keeps, SampledRows, threeSecondMargin, exactThreeSecond, ListHolds, observedList}
+use Rattle.accuracy.specs.WorkedRows.{Worked, SampledRows}
+use Rattle.accuracy.specs.LatestRows.{threeSecondMargin, exactThreeSecond, lastRows, lastValues}
+use Rattle.accuracy.specs.Claim.{WorkedList, LBook, UBook, Keeps, ListHolds, observedList}
 use Rattle.exported_windows.specs.Kinds.{kindWith}
 use Rattle.exported_windows.specs.GroupCalls.{groupCallRefusal, groupCallExit, rowCallRefusal, rowCallExit}
 use Rattle.record_words.specs.Words.{smoothedPlace, recordWords, wordsOf}
@@ -49,17 +50,20 @@ pub record CalledVerdict (kind : Kind) (list : CallList) (words : List ℕ) (q :
   pub number : (before : ℕ) → verdictCallExit words q before ≡ verdictNumber verdict
   pub kept : Keeps kind list class (q .order) (q .scale) verdict
 
--- what some words hold after any list of document 01, whatever 32-bit values its rows hold (document 02, card 8)
-pub record LatestWords (list : CallList) (words : List ℕ) : Type 0 where
-  -- they are the words of the record after the list, of whose latest rows this is claimed
-  pub held : words ≡ wordsOf (after list)
-  pub claimed : LatestHolds list
-  -- the call for the three-second value is refused with 20 before the fifteenth accepted row
+-- what the call for the three-second value answers of some words after any list of add row calls, whatever 32-bit
+-- values its rows hold (document 02, card 8)
+pub record CalledThreeSecond (list : CallList) (words : List ℕ) : Type 0 where
+  -- it is refused with 20 before the fifteenth accepted row, and not from then on
   pub asked : EveryOrder (λ order. threeSecondCallRefusal words order ≡ cond (ltb (length (acceptedRows list)) rowsKept) tooFewWindows noRefusal)
-  -- and leaves from then on that of the last 15 accepted rows, whatever the value was before
+  -- and leaves then the value of the last 15 accepted rows, whatever the value was before
   pub left : EveryOrder (λ order.
       rowsKept ≤ length (acceptedRows list) →
       (before : ℕ) → threeSecondCallExit words order before ≡ threeSecondOf (lastValues list order))
+  -- within 8 units of the exact one, where these rows are worked from samples of one kind
+  pub near : (kind : Kind) → EveryOrder (λ order.
+      rowsKept ≤ length (acceptedRows list) →
+      (samples : SampledRows kind (lastRows list)) (before : ℕ) →
+      WithinMargin threeSecondMargin (threeSecondCallExit words order before) (exactThreeSecond kind order (samples .sampled)))
 
 -- what some words hold after a list of document 01
 pub record WordsHold (kind : Kind) (list : CallList) (words : List ℕ) : Type 0 where
@@ -71,12 +75,7 @@ pub record WordsHold (kind : Kind) (list : CallList) (words : List ℕ) : Type 0
       (book : LBook kind list order) → state list book .smoothed ≤ᶠ whole (smoothedWord words order + smoothedMargin))
   pub smoothed-high : EveryOrder (λ order.
       (book : UBook kind list order) → whole (smoothedWord words order) ≤ᶠ state list book .smoothed +ᶠ whole smoothedMargin)
-  -- the three-second value is that of the list, and within 8 units of the exact one
-  pub latest : LatestWords list words
-  pub three-second-near : EveryOrder (λ order.
-      rowsKept ≤ length (acceptedRows list) →
-      (samples : SampledRows kind list) (before : ℕ) →
-      WithinMargin threeSecondMargin (threeSecondCallExit words order before) (exactThreeSecond kind order (samples .sampled)))
+  pub three-seconds : CalledThreeSecond list words
   pub verdicts :
       (q : Question) →
       verdictCallRefusal words q ≡ noRefusal →
@@ -108,8 +107,9 @@ CalledObserve recording start number setup windows before =
     (observeCallExit number setup recording start windows before)
 
 -- Demand 3 for the exported calls: the distance of a group value; a row that is worked from samples; and for any calls on
--- any 423 words, refused ones and ones that lend fewer words included, the latest rows of the list that they have come to,
--- and the claim about it where its accepted rows are worked from samples of one kind; and of an observation, whose rows are.
+-- any 423 words, refused ones and ones that lend fewer words included, that they hold the record after the list that they have
+-- come to and what the three-second value then is, and the claim about that list where its accepted rows are worked from samples
+-- of one kind; and of an observation, whose rows are.
 pub record ExportedDemand3Holds : Type 0 where
   pub groups :
       (recording : List ℤ) (start : ℕ) (buffer : List ℕ) (number : ℕ) (setup : Setup) (order before : ℕ) →
@@ -123,7 +123,7 @@ pub record ExportedDemand3Holds : Type 0 where
       (calls : List Call) (list : CallList) →
       listAfter none calls ≡ some list →
       AcceptedFit (list .setup) 0 (list .rows) →
-      LatestWords list (wordsAfter words calls)
+      (wordsAfter words calls ≡ wordsOf (after list)) × CalledThreeSecond list (wordsAfter words calls)
   pub lists :
       (kind : Kind) (words : List ℕ) →
       length words ≡ recordWords →

@@ -1,4 +1,5 @@
--- The latest rows of a record: what a new row changes of their values, of those of an order and of the zeros to come; and the last values of a list where there are enough.
+-- The latest rows of a record: what a new row changes of their values, of those of an order and of
+-- the zeros to come; and the last values of a list where there are enough.
 use mathlib.Core.Path.{_≡_, ap, ap₂, _∙_}
 use mathlib.Core.Bool.{true}
 use mathlib.Core.List.{List, [], _∷_, _++_}
@@ -116,7 +117,7 @@ module _ (n : ℕ) (values latest : List ℕ) where
 
   -- ---- zeros where no row has come yet, among any count of values
 
-  -- from the next row's place on nothing is changed
+  -- behind the row nothing is changed
   drop-withLatest :
       (k : ℕ) →
       drop (rowPlace n + orderCount + k) (withLatest n values latest) ≡

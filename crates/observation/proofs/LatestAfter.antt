@@ -1,4 +1,5 @@
--- The latest rows after a list of calls: the last 15 accepted rows of the list, and zeros before them where there are fewer. The windows that the record counts are the accepted rows.
+-- The latest rows after a list of calls: the last 15 accepted rows of the list, and zeros before them
+-- where there are fewer. The windows that the record counts are the accepted rows.
 use mathlib.Core.Path.{_≡_, refl, sym, _∙_}
 use mathlib.Core.Bool.{true}
 use mathlib.Core.List.{List, [], _∷_, _++_, map, append-assoc, append-nil}
@@ -90,7 +91,7 @@ fresh-record-after-windows setup rows known fits =
     rw (fresh-of-known setup known)
     (windows-after (emptyRecord setup) rows (empty-record-sound setup known) fits ∙ zero-add _)
 
--- "the figure after any run of add row calls equals the one worked afresh from the last 15 accepted rows"
+-- and what is kept is the values of the last 15 of them
 pub fresh-record-after-latest :
     (setup : Setup) (rows : List Row) (i : ℕ) → isSetup setup ≡ true → i < orderCount → AcceptedFit setup 0 rows →
     latestAt (recordAfter (freshAnswer setup .observation) rows) i ≡ lastOf (acceptedValues setup 0 rows i)

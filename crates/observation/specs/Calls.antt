@@ -75,8 +75,8 @@ withRow o row =
       latest = withLatest (o .windows) (row .values) (o .latest);
     }
 
--- what a book with its own setup and count turns away, by the row's setup: 1 the row's system not 10 or 12; 19 its edition not 0 or 1; 8 one of the two
--- differs from the record's; 9 45,000 windows held
+-- what a book with its own setup and count turns away, by the row's setup: 1 the row's system not 10 or 12; 19
+-- its edition not 0 or 1; 8 one of the two differs from the record's; 9 45,000 windows held
 unfoldable pub rowChecks : Setup → ℕ → Setup → List (Bool × ℕ)
 rowChecks own count setup =
     setupChecks setup ++

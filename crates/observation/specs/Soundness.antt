@@ -26,7 +26,7 @@ unfoldable pub allZero : List ℕ → List ℕ → List ℕ → Bool
 allZero smoothed sum peak = allTrue (zeroTests smoothed sum peak)
 
 -- its system is 10 or 12 and its edition 0 or 1, n is at most 45,000, no sum is above n×(2^32−1), no peak or smoothed value above 2^32−1, n = 0 means
--- zeros, and the latest rows hold "zeros where none has come yet": from the place of the n-th row on
+-- zeros, and the latest rows hold "zeros where none has come yet": behind the values of n rows, of which 15 fill them
 abbrev pub soundTests : Observation → List Bool
 soundTests o =
     isSetup (o .setup) ∷

@@ -4,7 +4,7 @@ use crate::RecordAnswer;
 use crate::VALUES_KEPT;
 use crate::book::OrderBook;
 use crate::book::book_step;
-use crate::latest_rows::put_row;
+use crate::latest_rows::keep_row;
 use crate::soundness::MOST_WINDOWS;
 use crate::soundness::is_sound;
 use refusals::NO_REFUSAL;
@@ -96,7 +96,7 @@ fn with_row(observation: Observation, row: Row) -> Observation
         i += 1;
     }
     let mut latest = observation.latest;
-    put_row(&mut latest, windows, &row.values);
+    keep_row(&mut latest, windows, &row.values);
     let windows = windows + 1;
     let setup = observation.setup;
     Observation {

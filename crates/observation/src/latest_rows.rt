@@ -16,8 +16,8 @@ pub fn row_place(windows: u32) -> usize
     windows as usize % ROWS_KEPT * ORDER_COUNT
 }
 
-// Puts the row that comes after so many windows where the oldest stood.
-pub(crate) fn put_row(latest: &mut [u32], windows: u32, values: &[u32; ORDER_COUNT])
+// Keeps the row that comes after so many windows, where the oldest stood.
+pub(crate) fn keep_row(latest: &mut [u32], windows: u32, values: &[u32; ORDER_COUNT])
     requires { ⌜ length (now latest) ≡ valuesKept ⌝ }
     ensures { λ _. ⌜ now (latest .exit) ≡ withLatest windows (now (values .entry)) (now (latest .entry)) ⌝ }
 {

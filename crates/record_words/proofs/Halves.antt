@@ -27,14 +27,18 @@ packed-unpacked [] = refl
 packed-unpacked (word ∷ words) = ap₂ (λ first rest. first ∷ rest) (mod-add-div word halfBase) (packed-unpacked words)
 
 -- what holds of no values, and of a pair before values of which it holds, holds of every even count of values
-module _ (P : List ℕ → ℕ → Type 0) (none : P [] 0) (more : (low high : ℕ) (values : List ℕ) (count : ℕ) → P values count → P (low ∷ high ∷ values) (suc count)) where
-  by-pairs : (values : List ℕ) (count : ℕ) → length values ≡ 2 * count → P values count
-  by-pairs [] zero whole = none
-  by-pairs [] (suc count) whole = absurd (omega arith)
-  by-pairs (low ∷ []) zero whole = absurd (omega arith)
-  by-pairs (low ∷ []) (suc count) whole = absurd (omega arith)
-  by-pairs (low ∷ high ∷ values) zero whole = absurd (omega arith)
-  by-pairs (low ∷ high ∷ values) (suc count) whole = more low high values count (by-pairs values count (omega arith))
+module _
+    (P : List ℕ → ℕ → Type 0)
+    (none : P [] 0)
+    (more : (low high : ℕ) (values : List ℕ) (count : ℕ) → P values count → P (low ∷ high ∷ values) (suc count))
+  where
+    by-pairs : (values : List ℕ) (count : ℕ) → length values ≡ 2 * count → P values count
+    by-pairs [] zero whole = none
+    by-pairs [] (suc count) whole = absurd (omega arith)
+    by-pairs (low ∷ []) zero whole = absurd (omega arith)
+    by-pairs (low ∷ []) (suc count) whole = absurd (omega arith)
+    by-pairs (low ∷ high ∷ values) zero whole = absurd (omega arith)
+    by-pairs (low ∷ high ∷ values) (suc count) whole = more low high values count (by-pairs values count (omega arith))
 
 pub packed-length : (values : List ℕ) (count : ℕ) → length values ≡ 2 * count → length (packed values) ≡ count
 unfolding packed

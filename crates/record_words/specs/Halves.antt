@@ -1,4 +1,5 @@
--- Numbers of 32 bits, two in a word of 64: the first of each pair is the word's lower half. So the latest rows of a record (document 02, card 8) take half as many words as they have values.
+-- Numbers of 32 bits, two in a word of 64: the first of each pair is the word's lower half. So the latest
+-- rows of a record (document 02, card 8) take half as many words as they have values.
 use mathlib.Core.List.{List, [], _∷_}
 use Prim.Native.Nat.{ℕ, _+_, _*_, _/_, _%_, _^_}
 

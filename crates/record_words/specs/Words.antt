@@ -1,4 +1,5 @@
--- An observation record (document 01, "The observation record"; its edition and its latest rows, document 02, cards 7 and 8) as words that a caller keeps.
+-- An observation record (document 01, "The observation record"; its edition and its latest
+-- rows, document 02, cards 7 and 8) as words that a caller keeps.
 use mathlib.Core.Bool.{cond}
 use mathlib.Core.Path.{_≡_}
 use mathlib.Core.List.{List, [], _∷_, map}
@@ -18,7 +19,8 @@ use Rattle.algebra.specs.Lists.{joined}
 abbrev pub latestWords : ℕ
 latestWords = valuesKept / 2
 
--- the counts of words of a record's parts: its system, its edition, its count of windows, the smoothed values, the sums and the peaks of the 40 orders, and the latest rows
+-- the counts of words of a record's parts: its system, its edition, its count of windows, the
+-- smoothed values, the sums and the peaks of the 40 orders, and the latest rows
 abbrev pub recordParts : List ℕ
 recordParts = 1 ∷ 1 ∷ 1 ∷ orderCount ∷ orderCount ∷ orderCount ∷ latestWords ∷ []
 

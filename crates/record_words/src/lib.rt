@@ -6,6 +6,7 @@ mod writing;
 
 use observation::VALUES_KEPT;
 pub use reading::read_record;
+use rows::LARGEST_VALUE;
 use rows::ORDER_COUNT;
 pub use writing::hand_over_record;
 
@@ -30,4 +31,4 @@ const LATEST_WORDS: usize = VALUES_KEPT / 2;
 pub const RECORD_WORDS: usize = LATEST_PLACE + LATEST_WORDS;
 
 // One more than the largest number of 32 bits: what the upper half of a word counts.
-const HALF_BASE: u64 = 4_294_967_296;
+const HALF_BASE: u64 = LARGEST_VALUE + 1;

@@ -1,4 +1,5 @@
--- Laws of the three-second value: that it is the largest whole t of document 02's card 8 and is below 2^32, how it is worked out, and what is known of a call that is not refused.
+-- Laws of the three-second value: that it is the largest whole t of document 02's card 8 and is below
+-- 2^32, how it is worked out, and what is known of a call that is not refused.
 use mathlib.Core.Path.{_≡_, refl}
 use mathlib.Core.Bool.{true}
 use mathlib.Core.List.{List}

@@ -1,14 +1,16 @@
--- The margins of demand 3 in figures, at each system and under each edition: 7 units for a group value, 12 for a smoothed one, 8 for a three-second one,
--- which is of 15 windows, and what the numbers of the three verdicts of order 3 say against its limit of 2,300 mA. The claims name their numbers, and a weaker one would be proved as well; here it is refused.
+-- The margins of demand 3 in figures, at each system and under each edition: 7 units for a group
+-- value, 12 for a smoothed one, 8 for a three-second one, which is of 15 windows, and what the numbers
+-- of the three verdicts of order 3 say against its limit of 2,300 mA. The claims name their numbers,
+-- and a weaker one would be proved as well; here it is refused.
 use mathlib.Core.Path.{_≡_, refl, sym, ap, _∙_}
 use mathlib.Core.Bool.{true}
-use mathlib.Core.List.{List, map}
+use mathlib.Core.List.{List, _++_, map}
 use mathlib.Core.Logic.{_⊎_, inl, inr, ⊎-map}
 use mathlib.Core.Option.{none, some}
 use Prim.Native.Nat.{ℕ, _+_, _-_, _*_, _<_, _≤_, max}
 use native.Mathlib.Omega.{arith}
 use lib.IntN.{ℤ}
-use lib.ListN.{length, getD, drop, length-map}
+use lib.ListN.{length, getD, drop, replicate, length-map}
 use borrow.Author.Tests.{lt-ltb, le-ltb}
 use Rattle.algebra.specs.Fraction.{Fraction, whole, times, divide, square, sumᶠ, _+ᶠ_}
 use Rattle.refusals.specs.declared.Answer.{Answer}
@@ -28,6 +30,7 @@ use Rattle.observation.specs.declared.Observation.{Observation}
 use Rattle.observation.specs.Book.{Book}
 use Rattle.observation.specs.Smoothing.{reported}
 use Rattle.observation.specs.Calls.{bookAt}
+use Rattle.observation.specs.Latest.{latestValues, lastOf}
 use Rattle.observation.specs.BookCalls.{valueAt, AcceptedFit}
 use Rattle.observation.proofs.Latest.{lastOf-enough}
 use Rattle.limits.specs.declared.Class.{Class}
@@ -41,17 +44,19 @@ use Rattle.verdict.specs.Limit.{limitInUnits, peakLimitInUnits}
 use Rattle.three_seconds.specs.ThreeSecond.{threeSecondOf, threeSecondAnswer}
 use Rattle.accuracy.specs.Distance.{InRange, WithinMargin, WeightsNear, GroupsNear}
 use Rattle.accuracy.specs.CallList.{CallList, after, acceptedRows, state}
-use Rattle.accuracy.specs.LatestRows.{LatestHolds}
-use Rattle.accuracy.specs.Claim.{WorkedList, LBook, UBook, reportedBook, Keeps, Sampled, SampledRows, exactThreeSecond, observedList}
+use Rattle.accuracy.specs.WorkedRows.{Sampled, SampledRows}
+use Rattle.accuracy.specs.LatestRows.{exactThreeSecond, lastRows, LatestHolds}
+use Rattle.accuracy.specs.Claim.{WorkedList, LBook, UBook, reportedBook, Keeps, observedList}
 use Rattle.observe.specs.Observe.{observeRefusal, observeAnswer}
 use Rattle.accuracy.proofs.Demand3.{demand3}
+use Rattle.record_words.specs.Words.{wordsOf}
 use Rattle.exported_windows.specs.Kinds.{kinds, kindWith}
 use Rattle.exported_windows.specs.GroupCalls.{groupCallRefusal, groupCallExit, rowCallRefusal, rowCallExit}
 use Rattle.exported_windows.specs.ObserveCall.{observeCallRefusal, observeCallExit}
 use Rattle.exported_records.specs.ThreeSecondCall.{threeSecondCallRefusal, threeSecondCallExit}
 use Rattle.exported_records.specs.VerdictCall.{verdictNumber, verdictCallRefusal, verdictCallExit}
 use Rattle.exported_accuracy.specs.Calls.{Call, wordsAfter, listAfter}
-use Rattle.exported_accuracy.specs.Claim.{WordsHold}
+use Rattle.exported_accuracy.specs.Claim.{CalledThreeSecond, WordsHold}
 use Rattle.exported_accuracy.proofs.ExportedDemand3.{exported-demand3}
 
 -- at 50 Hz and at 60 Hz, under edition 2 and under A1
@@ -174,12 +179,17 @@ Answers list order answered =
     (n ≤ 14 → answered ≡ record { refusal = 20; value = 0 }) ×
     (15 ≤ n → answered ≡ record { refusal = 0; value = threeSecondOf (drop (n - 15) (valuesOf list order)) })
 
--- after any list of calls of the library, whatever its rows hold: the windows counted are the accepted rows, and the answer is that of the last 15
+-- after any list of calls of the library, whatever 32-bit values its rows hold: the windows counted are the accepted rows, the kept
+-- values of an order are its last 15, with zeros before them where there are fewer, and the answer is theirs
 abbrev LatestKept : List Row → ℕ → Setup → Type 0
 LatestKept rows order setup =
     let list : CallList = record { setup = setup; rows = rows } in
+    let o = after list in
+    let values = valuesOf list order in
     AcceptedFit setup 0 rows →
-    (after list .windows ≡ length (acceptedRows list)) × Answers list order (threeSecondAnswer (after list) order)
+    (o .windows ≡ length (acceptedRows list)) ×
+    (latestValues (o .windows) (o .latest) (order - 1) ≡ drop (length values) (replicate 15 0 ++ values)) ×
+    Answers list order (threeSecondAnswer o order)
 
 -- which of the two it is, by the count of accepted rows
 three-second-answers :
@@ -194,48 +204,69 @@ three-second-answers list order least most kept =
     )
 
 latest-kept : (rows : List Row) (order : ℕ) → 1 ≤ order → order ≤ 40 → EachSetup (LatestKept rows order)
-unfolding isSetup isSystem isEdition
+unfolding isSetup isSystem isEdition lastOf
 latest-kept rows order least most = (at _ refl, at _ refl, at _ refl, at _ refl)
   where
     at : (setup : Setup) → isSetup setup ≡ true → LatestKept rows order setup
     at setup known fits =
         let list : CallList = record { setup = setup; rows = rows } in
         let kept = demand3 .latest list known fits in
-        (kept .same-windows, three-second-answers list order least most kept)
+        (kept .same-windows, kept .same-latest order least most, three-second-answers list order least most kept)
 
--- 15 times the square of t less 8 (not below 0) is at most the sum of the exact groups of the last 15 windows, and that is at most 15 times the square of t plus 8
-abbrev Within8 : Kind → (list : CallList) → ℕ → ℕ → Type 0
+-- 15 times the square of t less 8 (not below 0) is at most the sum of the exact groups of the last 15 windows, and
+-- that is at most 15 times the square of t plus 8
+abbrev Within8 : Kind → CallList → ℕ → ℕ → Type 0
 Within8 kind list order t =
-    15 ≤ length (acceptedRows list) →
-    (samples : SampledRows kind list) →
-    let all = samples .sampled in
-    let g = sumᶠ (map (λ (s : Sampled). exactGroup kind (s .row .setup) order (s .window)) (drop (length all - 15) all)) in
+    let rows = acceptedRows list in
+    15 ≤ length rows →
+    (samples : SampledRows kind (drop (length rows - 15) rows)) →
+    let g = sumᶠ (map (λ (s : Sampled). exactGroup kind (s .row .setup) order (s .window)) (samples .sampled)) in
     (15 * ((t - 8) * (t - 8)) * g .den ≤ g .num) × (g .num ≤ 15 * ((t + 8) * (t + 8)) * g .den)
 
 -- what is claimed of the exact square, in these figures
 within-8-of :
     (kind : Kind) (list : CallList) (order t : ℕ) →
-    (15 ≤ length (acceptedRows list) → (samples : SampledRows kind list) → WithinMargin 8 t (exactThreeSecond kind order (samples .sampled))) →
+    (15 ≤ length (acceptedRows list) →
+    (samples : SampledRows kind (lastRows list)) → WithinMargin 8 t (exactThreeSecond kind order (samples .sampled))) →
     Within8 kind list order t
 unfolding exactThreeSecond whole square divide
 within-8-of kind list order t claimed enough samples =
     let near = claimed enough samples in
     (omega (arith, near .not-far-below), omega (arith, near .not-far-above))
 
--- after any list of calls of the library whose accepted rows are worked from samples
+-- after any list of calls of the library, whatever 32-bit values its rows hold before the last 15
 abbrev ListWithin8 : Kind → List Row → ℕ → Setup → Type 0
 ListWithin8 kind rows order setup =
     let list : CallList = record { setup = setup; rows = rows } in
-    WorkedList kind list → Within8 kind list order (threeSecondAnswer (after list) order .value)
+    AcceptedFit setup 0 rows → Within8 kind list order (threeSecondAnswer (after list) order .value)
 
 within-8 : (kind : Kind) (rows : List Row) (order : ℕ) → 1 ≤ order → order ≤ 40 → EachSetup (ListWithin8 kind rows order)
 unfolding isSetup isSystem isEdition
 within-8 kind rows order least most = (at _ refl, at _ refl, at _ refl, at _ refl)
   where
     at : (setup : Setup) → isSetup setup ≡ true → ListWithin8 kind rows order setup
-    at setup known worked =
+    at setup known fits =
         let list : CallList = record { setup = setup; rows = rows } in
-        within-8-of kind list order _ (demand3 .lists kind list known worked .three-second-near order least most)
+        within-8-of kind list order _ (demand3 .latest list known fits .near kind order least most)
+
+-- the refusal of the exported call before the fifteenth accepted row, and from then on with the value that is left, 77 before the call
+abbrev ValueLeft : CallList → List ℕ → ℕ → Type 0
+ValueLeft list words order =
+    let n = length (acceptedRows list) in
+    (n ≤ 14 → threeSecondCallRefusal words order ≡ 20) ×
+    (15 ≤ n →
+    (threeSecondCallRefusal words order ≡ 0) × (threeSecondCallExit words order 77 ≡ threeSecondOf (drop (n - 15) (valuesOf list order))))
+
+value-left : (list : CallList) (words : List ℕ) (order : ℕ) → 1 ≤ order → order ≤ 40 → CalledThreeSecond list words → ValueLeft list words order
+value-left list words order least most called =
+    let n = length (acceptedRows list) in
+    let count = length-map (acceptedRows list) (valueAt (order - 1)) in (
+      λ few. called .asked order least most ∙ rw (lt-ltb n 15 (omega (arith, few))),
+      λ enough. (
+        called .asked order least most ∙ rw (le-ltb n 15 enough),
+        called .left order least most enough 77 ∙ rw (lastOf-enough (valuesOf list order) (omega (arith, count, enough)), count),
+      ),
+    )
 
 -- ---- the verdict of an order: of a limit of num/den milliamperes, num × K / (1000 × den) units and 150 % of that, 3 × num × K / (2000 × den)
 
@@ -323,11 +354,6 @@ module _
     words-within-12 order least most l u =
         (omega (arith, holds .smoothed-low order least most l), omega (arith, holds .smoothed-high order least most u))
 
-    words-within-8 :
-        (order before : ℕ) → 1 ≤ order → order ≤ 40 → Within8 kind list order (threeSecondCallExit (wordsAfter words calls) order before)
-    words-within-8 order before least most =
-        within-8-of kind list order _ (λ enough samples. holds .three-second-near order least most enough samples before)
-
     words-verdict-number :
         (k before : ℕ) →
         EachFigure (λ letter order num den.
@@ -335,28 +361,24 @@ module _
         NumberSays kind list order num den k (verdictCallExit (wordsAfter words calls) (asked order letter k) before))
     words-verdict-number = called-number-says kind list (wordsAfter words calls) holds
 
--- whatever 32-bit values their rows hold: the refusal, and the value that is left, 77 before the call
+-- whatever 32-bit values their rows hold
 module _
     (words : List ℕ) (calls : List Call) (list : CallList)
     (whole-record : length words ≡ 423) (came : listAfter none calls ≡ some list) (fits : AcceptedFit (list .setup) 0 (list .rows))
   where
-    words-three-second :
-        (order : ℕ) → 1 ≤ order → order ≤ 40 →
-        let n = length (acceptedRows list) in
-        let after-calls = wordsAfter words calls in
-        (n ≤ 14 → threeSecondCallRefusal after-calls order ≡ 20) ×
-        (15 ≤ n →
-        (threeSecondCallRefusal after-calls order ≡ 0) × (threeSecondCallExit after-calls order 77 ≡ threeSecondOf (drop (n - 15) (valuesOf list order))))
+    words-held : wordsAfter words calls ≡ wordsOf (after list)
+    words-held = exported-demand3 .latest words whole-record calls list came fits .0
+
+    words-three-second : (order : ℕ) → 1 ≤ order → order ≤ 40 → ValueLeft list (wordsAfter words calls) order
     words-three-second order least most =
-        let kept = exported-demand3 .latest words whole-record calls list came fits in
-        let n = length (acceptedRows list) in
-        let count = length-map (acceptedRows list) (valueAt (order - 1)) in (
-          λ few. kept .asked order least most ∙ rw (lt-ltb n 15 (omega (arith, few))),
-          λ enough. (
-            kept .asked order least most ∙ rw (le-ltb n 15 enough),
-            kept .left order least most enough 77 ∙ rw (lastOf-enough (valuesOf list order) (omega (arith, count, enough)), count),
-          ),
-        )
+        value-left list (wordsAfter words calls) order least most (exported-demand3 .latest words whole-record calls list came fits .1)
+
+    words-within-8 :
+        (kind : Kind) (order before : ℕ) → 1 ≤ order → order ≤ 40 →
+        Within8 kind list order (threeSecondCallExit (wordsAfter words calls) order before)
+    words-within-8 kind order before least most =
+        let called = exported-demand3 .latest words whole-record calls list came fits .1 in
+        within-8-of kind list order _ (λ enough samples. called .near kind order least most enough samples before)
 
 -- ---- an observation
 
@@ -396,7 +418,7 @@ observed-within-8 kind setup recording start windows order accepted least most =
     let list = observedList kind setup recording start windows in
     let same = observed .same-record in (
       sym (observed .holds .latest .same-windows) ∙ (ap (λ (o : Observation). o .windows) (sym same) ∙ observed .windows-held),
-      rw same (within-8-of kind list order _ (observed .holds .three-second-near order least most)),
+      rw same (within-8-of kind list order _ (observed .holds .latest .near kind order least most)),
     )
 
 -- the words that kifsang_observe leaves, of harmonic groups (kind 1), and the verdicts that are then asked
@@ -413,6 +435,13 @@ module _
         let held = exported-demand3 .observed recording start 1 setup windows before accepted in
         (omega (arith, held .smoothed-low order least most l), omega (arith, held .smoothed-high order least most u))
 
+    observed-words-three-second :
+        (order : ℕ) → 1 ≤ order → order ≤ 40 →
+        ValueLeft (observedList HarmonicGroup setup recording start windows) (observeCallExit 1 setup recording start windows before) order
+    unfolding kindWith kinds
+    observed-words-three-second order least most =
+        value-left _ _ order least most (exported-demand3 .observed recording start 1 setup windows before accepted .three-seconds)
+
     observed-words-within-8 :
         (order value : ℕ) → 1 ≤ order → order ≤ 40 →
         Within8 HarmonicGroup (observedList HarmonicGroup setup recording start windows) order
@@ -421,7 +450,7 @@ module _
     observed-words-within-8 order value least most =
         let held = exported-demand3 .observed recording start 1 setup windows before accepted in
         within-8-of HarmonicGroup (observedList HarmonicGroup setup recording start windows) order _
-        (λ enough samples. held .three-second-near order least most enough samples value)
+        (λ enough samples. held .three-seconds .near HarmonicGroup order least most enough samples value)
 
     observed-verdict-number :
         (k number : ℕ) →

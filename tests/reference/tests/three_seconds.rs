@@ -1,11 +1,14 @@
 //! The latest rows of a record, its words, and the three-second value (document 02,
 //! card 8): worked values by hand, what leaves as a row arrives, the zeros of a sound
-//! record, and the order of the refusals.
+//! record, the order of the refusals, and what the example of a network reader prints.
 
+use reference::groups::Kind;
 use reference::observation::{Observation, add_row, fresh_record, is_sound};
+use reference::observe::observe;
 use reference::random::Random;
 use reference::refusals::Refusal;
 use reference::rows::{LARGEST_VALUE, Row, Setup};
+use reference::spectrum::WINDOW_LENGTH;
 use reference::three_seconds::{three_second_of, three_second_value};
 use reference::verdict::{Question, order_verdict};
 use reference::words::{LATEST_PLACE, RECORD_WORDS, record_of, words_of};
@@ -245,4 +248,37 @@ fn any_words_are_a_record_and_back() {
         words[2] >>= random.below(64);
         assert_eq!(words_of(&record_of(&words)), words);
     }
+}
+
+/// The current of `examples/c/three_seconds.c`: 20 windows of each of three loads, in
+/// each cycle forward for two sixths, not at all for one, and backward likewise.
+fn drive_current() -> Vec<i32> {
+    let window = |amperes: i32| {
+        (0..WINDOW_LENGTH).map(move |place| {
+            let sixth = 60 * place / WINDOW_LENGTH % 6;
+            1_600 * amperes * [1, 1, 0, -1, -1, 0][sixth]
+        })
+    };
+    [2, 11, 5].into_iter().flat_map(|amperes| (0..20).flat_map(move |_| window(amperes))).collect()
+}
+
+#[test]
+fn the_network_reader_prints_these_values() {
+    let repository = std::path::Path::new(env!("CARGO_MANIFEST_DIR")).join("../..");
+    let printed = std::fs::read_to_string(repository.join("examples/c/three_seconds.txt")).unwrap();
+    let mut expected = String::from(
+        "time, s  order  three-second value, units  amperes\n    \
+         0.2      -                 refused 20        -\n",
+    );
+    let current = drive_current();
+    for windows in [15, 30, 45, 60] {
+        let record = observe(&current, 0, windows, SETUP, Kind::HarmonicSubgroup).unwrap();
+        expected.push('\n');
+        for order in (1..=13).step_by(2) {
+            let value = three_second_value(&record, order).unwrap();
+            let (time, amperes) = (windows as f64 / 5.0, value as f64 / (1_600.0 * 4_096.0));
+            expected.push_str(&format!("{time:7.1}  {order:5}  {value:25}  {amperes:7.4}\n"));
+        }
+    }
+    assert_eq!(printed, expected);
 }

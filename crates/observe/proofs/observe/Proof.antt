@@ -1,4 +1,5 @@
--- `observe::observe` meets its contract. The loop's invariant: the calls for the first `i` windows come to the answer, which is no refusal, and the next window begins at `at`.
+-- `observe::observe` meets its contract. The loop's invariant: the calls for the first `i` windows
+-- come to the answer, which is no refusal, and the next window begins at `at`.
 -- The measure is the count of windows that are left.
 use mathlib.Core.Path.{_≡_, refl, sym, ap, _∙_}
 use Prim.Native.Nat.{ℕ, suc, _+_, _-_, _≤_}

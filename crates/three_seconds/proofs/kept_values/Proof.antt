@@ -1,4 +1,5 @@
--- `three_seconds::kept_values` meets its contract. The loop's invariant: the values are filled up to `j`. The measure is the count of values that are left.
+-- `three_seconds::kept_values` meets its contract. The loop's invariant: the values are
+-- filled up to `j`. The measure is the count of values that are left.
 use mathlib.Core.Path.{_≡_, refl}
 use Prim.Native.Nat.{_+_, _-_, _≤_, _<_}
 use native.Mathlib.Omega.{arith}

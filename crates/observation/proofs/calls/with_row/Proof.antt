@@ -102,7 +102,7 @@ returns c =
     filled-whole orderCount _ (o .sum) _ (rw end at (inv .2)) (sizes .sum) in
     let peak : at-loop .loop .peak ≡ tabulate orderCount (λ j. nextBook o row j .peak) =
     filled-whole orderCount _ (o .peak) _ (rw end at (inv .3)) (sizes .peak) in
-    rw (smoothed, sum, peak, at-put .put-row .ensures)
+    rw (smoothed, sum, peak, at-put .keep-row .ensures)
 
 pub with-row-spec : {M : Type 1} → statement M
 with-row-spec =

@@ -1,4 +1,5 @@
--- `observation::soundness::zeros_to_come` meets its contract. The loop's invariant: from `place` on a value is above 0 just where one is from the next row's place on.
+-- `observation::soundness::zeros_to_come` meets its contract. The loop's invariant: from `place`
+-- on a value is above 0 just where one is behind the values of the rows that have come.
 -- The measure is the count of values that are left.
 use mathlib.Core.Path.{_≡_, refl, sym, ap, _∙_}
 use mathlib.Core.Bool.{not}

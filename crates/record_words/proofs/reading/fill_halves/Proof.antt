@@ -1,4 +1,5 @@
--- `record_words::reading::fill_halves` meets its contract. The loop's invariant: the values are filled up to `2 × k` with the halves of the words from the place on.
+-- `record_words::reading::fill_halves` meets its contract. The loop's invariant: the values are
+-- filled up to `2 × k` with the halves of the words from the place on.
 -- The measure is the count of words that are left.
 use mathlib.Core.Path.{_≡_, refl, sym, _∙_}
 use Prim.Native.Nat.{ℕ, _+_, _*_, _-_, _/_, _%_, _≤_}

@@ -1,6 +1,6 @@
--- `record_words::reading::read_record` meets its contract. The loop's invariant: the smoothed values, the sums and the peaks are filled up to `i` with
--- the words from their places on, and the rest is as it was.
--- The measure is the count of orders that are left.
+-- `record_words::reading::read_record` meets its contract. The loop's invariant: the smoothed values,
+-- the sums and the peaks are filled up to `i` with the words from their places on, and the rest is as
+-- it was. The measure is the count of orders that are left.
 use mathlib.Core.Path.{_≡_, refl}
 use mathlib.Core.List.{List}
 use Prim.Native.Nat.{ℕ, _+_, _-_, _≤_, _<_}

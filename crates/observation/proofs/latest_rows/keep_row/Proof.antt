@@ -1,4 +1,5 @@
--- `observation::latest_rows::put_row` meets its contract. The loop's invariant: before the row's place nothing is changed, and from there on the row's values are filled in up to `i`.
+-- `observation::latest_rows::keep_row` meets its contract. The loop's invariant: before the row's place
+-- nothing is changed, and from there on the row's values are filled in up to `i`.
 -- The measure is the count of values that are left.
 use mathlib.Core.Path.{_≡_, refl, sym, _∙_}
 use Prim.Native.Nat.{_+_, _-_, _≤_, _<_}
@@ -12,8 +13,8 @@ use Rattle.rows.specs.Orders.{orderCount}
 use Rattle.rows.specs.Rows.{firstValues}
 use Rattle.observation.specs.Latest.{valuesKept, rowPlace, withLatest}
 use Rattle.observation.proofs.Latest.{row-fits}
-use Rattle.observation.proofs.latest_rows.put_row.Statement.{statement}
-use Rattle.observation.proofs.latest_rows.put_row.Tie as tie
+use Rattle.observation.proofs.latest_rows.keep_row.Statement.{statement}
+use Rattle.observation.proofs.latest_rows.keep_row.Tie as tie
 
 abbrev Inv-loop : tie.InvT-loop
 Inv-loop latest₀ windows values place i₀ latest i =
@@ -68,8 +69,8 @@ returns c =
     sym (take-append-drop (call .row-place .result) latest) ∙
     rw (at .loop .inv .2, at .loop .inv .3, end, call .row-place .ensures, drop-drop orderCount (rowPlace (a .windows)) (a .latest .now))
 
-pub put-row-spec : {M : Type 1} → statement M
-put-row-spec =
+pub keep-row-spec : {M : Type 1} → statement M
+keep-row-spec =
     tie.close
     (tie.spec
     Inv-loop
