@@ -6,7 +6,6 @@ use mathlib.Core.Bool.{true}
 use mathlib.Core.List.{List, [], _∷_, map, map-map, map-id}
 use Prim.Native.Nat.{ℕ, _+_, _-_, _<_, _≤_}
 use lib.IntN.{ℤ}
-use lib.ListN.{length}
 use Rattle.algebra.specs.Fraction.{whole, Side, lower, upper, RootBound}
 use Rattle.algebra.specs.Weighted.{Everywhere}
 use Rattle.algebra.proofs.Weighted.{everywhere-drop}
@@ -15,13 +14,12 @@ use Rattle.rows.specs.declared.Setup.{Setup}
 use Rattle.rows.specs.Orders.{orderCount}
 use Rattle.groups.specs.declared.Kind.{Kind}
 use Rattle.groups.specs.Exact.{exactGroup}
-use Rattle.observation.specs.Latest.{rowsKept}
 use Rattle.observation.specs.BookCalls.{Fed, valueAt}
 use Rattle.accuracy.specs.Distance.{groupMargin, ValueNear}
 use Rattle.accuracy.specs.ExactBook.{exact}
 use Rattle.accuracy.specs.CallList.{CallList, accepted, acceptedRows, ExactBook}
 use Rattle.accuracy.specs.WorkedRows.{Worked, Sampled, SampledRows}
-use Rattle.accuracy.specs.LatestRows.{lastRows}
+use Rattle.accuracy.specs.LatestRows.{rowsGone, lastRows}
 use Rattle.accuracy.specs.Claim.{WorkedList, Feeds}
 use Rattle.accuracy.proofs.AcceptedCalls.{accepted-setup, each-accepted-map}
 use Rattle.accuracy.proofs.WorkedRows.{worked-near}
@@ -87,7 +85,7 @@ module _ (kind : Kind) where
   pub samples-exist : (list : CallList) → WorkedList kind list → SampledRows kind (lastRows list)
   unfolding WorkedList
   samples-exist list worked =
-      let from = everywhere-drop FromSamples (length (acceptedRows list) - rowsKept) (acceptedRows list) worked in
+      let from = everywhere-drop FromSamples (rowsGone list) (acceptedRows list) worked in
       record {
         sampled = sampledOf (lastRows list) from;
         same-rows = sampledOf-rows (lastRows list) from;

@@ -22,7 +22,7 @@ use Rattle.three_seconds.proofs.ThreeSecond.{threeSecondOf-passes, threeSecondO
 use Rattle.accuracy.specs.Distance.{groupMargin, WithinMargin}
 use Rattle.accuracy.specs.CallList.{CallList, accepted, acceptedRows}
 use Rattle.accuracy.specs.WorkedRows.{Sampled, SampledRows}
-use Rattle.accuracy.specs.LatestRows.{threeSecondMargin, exactThreeSecond, lastRows, lastValues}
+use Rattle.accuracy.specs.LatestRows.{threeSecondMargin, exactThreeSecond, rowsGone, lastRows, lastValues}
 use Rattle.accuracy.proofs.AcceptedCalls.{accepted-setup, each-accepted-carry}
 use Rattle.accuracy.proofs.WorkedRows.{worked-fits, worked-near}
 use Rattle.accuracy.proofs.ThreeSecondDistance.{mean-near}
@@ -49,7 +49,7 @@ module _ (list : CallList) (fits : AcceptedFit (list .setup) 0 (list .rows)) whe
   -- the last rows have known setups, as all accepted ones
   known-setups : Everywhere (λ row. isSetup (row .setup) ≡ true) (lastRows list)
   known-setups =
-      everywhere-drop (λ (row : Row). isSetup (row .setup) ≡ true) (length (acceptedRows list) - rowsKept) (acceptedRows list)
+      everywhere-drop (λ (row : Row). isSetup (row .setup) ≡ true) (rowsGone list) (acceptedRows list)
       (each-accepted-carry (λ row. row) ValuesFit (λ row. isSetup (row .setup) ≡ true) (accepted list)
       (λ count row taken fit. accepted-setup list count row taken)
       0 (list .rows) fits)
@@ -87,7 +87,7 @@ module _ (list : CallList) (fits : AcceptedFit (list .setup) 0 (list .rows)) whe
           let own = valueAt (order - 1) in
           let count = length-map (acceptedRows list) own in
           lastOf-enough (map own (acceptedRows list)) (omega (arith, count, enough)) ∙
-          rw (count, drop-made own (length (acceptedRows list) - rowsKept) (acceptedRows list), ← samples .same-rows)
+          rw (count, drop-made own (rowsGone list) (acceptedRows list), ← samples .same-rows)
           (map-map own (λ s. s .row) (samples .sampled))
 
       pub last-figure-near : WithinMargin threeSecondMargin (threeSecondOf (lastValues list order)) (exactThreeSecond kind order (samples .sampled))

@@ -29,9 +29,13 @@ exactThreeSecond kind order sampled =
     divide (sumᶠ (map (λ s. exactGroup kind (s .row .setup) order (s .window)) sampled)) rowsKept (omega arith)
 
 module _ (list : CallList) where
+  -- the count of accepted rows that have left
+  abbrev pub rowsGone : ℕ
+  rowsGone = length (acceptedRows list) - rowsKept
+
   -- the last 15 accepted rows, or all where there are fewer
   abbrev pub lastRows : List Row
-  lastRows = drop (length (acceptedRows list) - rowsKept) (acceptedRows list)
+  lastRows = drop rowsGone (acceptedRows list)
 
   -- the values of an order in the last 15 accepted rows, with zeros before them where there are fewer
   abbrev pub lastValues : ℕ → List ℕ
