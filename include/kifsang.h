@@ -434,10 +434,11 @@ uint32_t kifsang_verdict(const uint64_t *record, uint64_t record_words, uint32_t
  * Refusals: 102 record_words is not 423; 7 the record is not sound; 6 order outside 1..40; 20 fewer than
  *   15 windows. A refused call leaves the value as it was.
  * Proved error: none for the rows that were added; after any calls since a fresh record or an observation,
- *   refused ones included, the value is that of the last 15 rows that were accepted. After calls as of
- *   kifsang_add_row it is at most 8 units from the exact one, whose square is a fifteenth of the sum of the
- *   squares of the 15 windows' exact groups: 15 * (t - 8)^2 <= that sum <= 15 * (t + 8)^2, with 0 for t - 8
- *   where t is below 8 (exported-demand3).
+ *   refused ones included, the value is that of the last 15 rows that were accepted. Where these come from
+ *   kifsang_observe, or from kifsang_spectrum and kifsang_row, all of one kind and with their own system and
+ *   edition, it is at most 8 units from the exact one, whose square is a fifteenth of the sum of the squares
+ *   of the 15 windows' exact groups: 15 * (t - 8)^2 <= that sum <= 15 * (t + 8)^2, with 0 for t - 8 where t
+ *   is below 8; what was added before them does not matter (exported-demand3).
  * Definition: threeSecondOf, crates/three_seconds/specs/ThreeSecond.antt, and threeSecondCallRefusal and
  *   threeSecondCallExit, crates/exported_records/specs/ThreeSecondCall.antt.
  */

@@ -599,9 +599,9 @@ pub fn verdict(
 /// Refusals: 102 not 423 words; 7 the record is not sound; 6 order outside 1..40; 20 fewer than 15 windows.
 ///
 /// Proved error: none for the rows that were added; after any list of calls from a fresh record, refused
-/// ones included, it is the value of the last 15 accepted rows. After a list of calls as of [`add_row`] it is
-/// at most 8 units from the exact one, whose square is a fifteenth of the sum of the squares of the 15
-/// windows' exact groups.
+/// ones included, it is the value of the last 15 accepted rows. Where these come from [`observe`], or from
+/// [`spectrum`] and [`row`], all of one kind, it is at most 8 units from the exact one, whose square is a
+/// fifteenth of the sum of the squares of the 15 windows' exact groups.
 ///
 /// ```
 /// use kifsang::{add_row, three_second_value, Refusal};
