@@ -14,7 +14,7 @@ use Rattle.rows.specs.Rows.{largestValue, ValuesFit}
 use Rattle.wide_numbers.specs.Squares.{sumOfSquares}
 use Rattle.groups.specs.declared.Kind.{Kind}
 use Rattle.groups.specs.Exact.{exactGroup}
-use Rattle.observation.specs.Latest.{rowsKept, lastOf}
+use Rattle.observation.specs.Latest.{rowsKept}
 use Rattle.observation.specs.BookCalls.{valueAt, AcceptedFit}
 use Rattle.observation.proofs.Latest.{lastOf-enough}
 use Rattle.three_seconds.specs.ThreeSecond.{threeSecondOf}

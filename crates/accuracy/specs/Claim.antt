@@ -102,9 +102,10 @@ module _ (kind : Kind) (setup : Setup) (recording : List â„¤) (start windows : â
     pub worked : WorkedList kind observedList
     pub holds : ListHolds kind observedList
 
--- Demand 3: the distance of 7 units, over weights and so of every group value; the latest rows after every list of calls, whatever 32-bit
--- values its rows hold; for every kind, both systems and both editions the claim about every list of calls whose accepted rows are worked
--- from samples; and so of every observation that is not refused.
+-- Demand 3: the distance of 7 units, over weights and so of every group value; the latest rows and the three-second
+-- value after every list of calls, whatever 32-bit values its rows hold; for every kind, both systems and both editions
+-- the claim about every list of calls whose accepted rows are worked from samples; and so of every observation that is
+-- not refused.
 pub record Demand3Holds : Type 0 where
   pub weights : WeightsNear
   pub groups : GroupsNear

@@ -75,6 +75,7 @@ pub record WordsHold (kind : Kind) (list : CallList) (words : List ℕ) : Type 0
       (book : LBook kind list order) → state list book .smoothed ≤ᶠ whole (smoothedWord words order + smoothedMargin))
   pub smoothed-high : EveryOrder (λ order.
       (book : UBook kind list order) → whole (smoothedWord words order) ≤ᶠ state list book .smoothed +ᶠ whole smoothedMargin)
+  -- a three-second value is that of the list
   pub three-seconds : CalledThreeSecond list words
   pub verdicts :
       (q : Question) →
