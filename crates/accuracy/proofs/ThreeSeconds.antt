@@ -85,9 +85,8 @@ module _ (list : CallList) (fits : AcceptedFit (list .setup) 0 (list .rows)) whe
       unfolding value
       last-values =
           let own = valueAt (order - 1) in
-          let count = length-map (acceptedRows list) own in
-          lastOf-enough (map own (acceptedRows list)) (omega (arith, count, enough)) ∙
-          rw (count, drop-made own (rowsGone list) (acceptedRows list), ← samples .same-rows)
+          lastOf-enough own (acceptedRows list) enough ∙
+          rw (drop-made own (rowsGone list) (acceptedRows list), ← samples .same-rows)
           (map-map own (λ s. s .row) (samples .sampled))
 
       pub last-figure-near : WithinMargin threeSecondMargin (threeSecondOf (lastValues list order)) (exactThreeSecond kind order (samples .sampled))

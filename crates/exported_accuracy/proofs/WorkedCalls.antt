@@ -5,7 +5,7 @@ use mathlib.Core.Path.{_≡_, refl, _∙_}
 use mathlib.Core.Bool.{true}
 use mathlib.Core.List.{List, [], _∷_}
 use mathlib.Core.Option.{none, some}
-use Prim.Native.Nat.{ℕ, _-_, _≤_}
+use Prim.Native.Nat.{ℕ, _-_}
 use native.Mathlib.Omega.{arith}
 use lib.IntN.{ℤ}
 use lib.ListN.{length, replicate}
@@ -20,9 +20,10 @@ use Rattle.rows.proofs.Editions.{each-edition}
 use Rattle.rows.specs.Orders.{orderCount}
 use Rattle.accuracy.specs.Distance.{EveryOrder, InRange, WithinMargin}
 use Rattle.accuracy.specs.CallList.{acceptedRows}
-use Rattle.accuracy.specs.LatestRows.{exactThreeSecond}
+use Rattle.accuracy.specs.WorkedRows.{SampledRows}
+use Rattle.accuracy.specs.LatestRows.{exactThreeSecond, lastRows}
 use Rattle.accuracy.proofs.WorkedExample.{workedRow, otherRows, exampleList, example-worked}
-use Rattle.accuracy.proofs.WorkedThreeSeconds.{listOf, sixteen-worked, sixteen-accepted, sixteen-holds}
+use Rattle.accuracy.proofs.WorkedThreeSeconds.{listOf, accepted-count, list-worked, list-holds}
 use Rattle.verdict.specs.Question.{asked}
 use Rattle.record_words.specs.Words.{recordWords}
 use Rattle.observe.specs.Observe.{windowRows, observeChecks, observeRefusal}
@@ -87,19 +88,22 @@ module _ (kind : Kind) (window next : List ℤ) where
           exported-demand3 .lists kind words whole (calls 1 edition) _ (calls-come-to edition known .0)
           (example-worked kind window next in-range next-in-range edition known)
 
+      -- windows of the last 15 rows
+      samples : SampledRows kind (lastRows (listOf kind window next 15 edition))
+      samples = list-holds kind window next 15 (omega arith) in-range next-in-range edition known .1
+
       -- the three-second value of every order after the 16 rows is not refused, and within 8 units of the exact one
       sixteen-calls-near :
           EveryOrder (λ order.
           (threeSecondCallRefusal (wordsAfter words (calls 15 edition)) order ≡ 0) ×
           WithinMargin 8 (threeSecondCallExit (wordsAfter words (calls 15 edition)) order 0)
-          (exactThreeSecond kind order (sixteen-holds kind window next in-range next-in-range edition known .1 .sampled)))
+          (exactThreeSecond kind order (samples .sampled)))
       sixteen-calls-near order positive le =
           let list = listOf kind window next 15 edition in
-          let sixteen : length (acceptedRows list) ≡ 16 = sixteen-accepted kind window next edition known in
-          let enough : 15 ≤ length (acceptedRows list) = omega (arith, sixteen) in
-          let hold =
+          let sixteen : length (acceptedRows list) ≡ 16 = accepted-count kind window next 15 (omega arith) edition known in
+          let called =
           exported-demand3 .lists kind words whole (calls 15 edition) list (calls-come-to edition known .1)
-          (sixteen-worked kind window next in-range next-in-range edition known) .three-seconds in (
-            hold .asked order positive le ∙ rw sixteen,
-            hold .near kind order positive le enough (sixteen-holds kind window next in-range next-in-range edition known .1) 0,
+          (list-worked kind window next 15 (omega arith) in-range next-in-range edition known) .three-seconds in (
+            called .asked order positive le ∙ rw sixteen,
+            called .near kind order positive le (omega (arith, sixteen)) samples 0,
           )

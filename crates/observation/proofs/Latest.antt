@@ -2,12 +2,12 @@
 -- the zeros to come; and the last values of a list where there are enough.
 use mathlib.Core.Path.{_≡_, ap, ap₂, _∙_}
 use mathlib.Core.Bool.{true}
-use mathlib.Core.List.{List, [], _∷_, _++_}
+use mathlib.Core.List.{List, [], _∷_, _++_, map}
 use Prim.Native.Nat.{ℕ, suc, _+_, _-_, _*_, _%_, _<_, _≤_}
 use native.Mathlib.Nat.{mod-lt, mod-le, div-add-mod, add-mod-right}
 use native.Mathlib.Decide.{decLt}
 use native.Mathlib.Omega.{arith}
-use lib.ListN.{length, getD, take, drop, replicate, length-append, length-drop, length-take, getD-replicate, List·getD-append}
+use lib.ListN.{length, getD, take, drop, replicate, length-append, length-drop, length-take, length-map, getD-replicate, List·getD-append}
 use lib.Seq.{length-take-le, getD-append-add, getD-take, getD-drop, drop-append-add, drop-drop}
 use Rattle.algebra.specs.Lists.{tabulate}
 use Rattle.algebra.proofs.Lists.{length-tabulate, getD-tabulate, tabulate-eq, tabulate-last, tabulate-first, tabulate-same}
@@ -160,9 +160,11 @@ latestValues-empty i inside =
 -- ---- the last values of a list
 
 -- where 15 have come, zeros are none of them
-pub lastOf-enough : (values : List ℕ) → rowsKept ≤ length values → lastOf values ≡ drop (length values - rowsKept) values
+pub lastOf-enough :
+    {A : Type 0} (f : A → ℕ) (places : List A) → rowsKept ≤ length places →
+    lastOf (map f places) ≡ drop (length places - rowsKept) (map f places)
 unfolding lastOf
-lastOf-enough values enough =
+lastOf-enough f places enough =
     let zeros : List ℕ = replicate rowsKept 0 in
-    let count : length values ≡ length zeros + (length values - rowsKept) = omega arith in
-    ap (λ n. drop n (zeros ++ values)) count ∙ drop-append-add zeros values (length values - rowsKept)
+    let count : length (map f places) ≡ length zeros + (length places - rowsKept) = length-map places f ∙ omega arith in
+    ap (λ n. drop n (zeros ++ map f places)) count ∙ drop-append-add zeros (map f places) (length places - rowsKept)

@@ -10,7 +10,7 @@ use mathlib.Core.Option.{none, some}
 use Prim.Native.Nat.{ℕ, _+_, _-_, _*_, _<_, _≤_, max}
 use native.Mathlib.Omega.{arith}
 use lib.IntN.{ℤ}
-use lib.ListN.{length, getD, drop, replicate, length-map}
+use lib.ListN.{length, getD, drop, replicate}
 use borrow.Author.Tests.{lt-ltb, le-ltb}
 use Rattle.algebra.specs.Fraction.{Fraction, whole, times, divide, square, sumᶠ, _+ᶠ_}
 use Rattle.refusals.specs.declared.Answer.{Answer}
@@ -195,13 +195,10 @@ LatestKept rows order setup =
 three-second-answers :
     (list : CallList) (order : ℕ) → 1 ≤ order → order ≤ 40 → LatestHolds list → Answers list order (threeSecondAnswer (after list) order)
 unfolding threeSecondAnswer
-three-second-answers list order least most kept =
-    let count = length-map (acceptedRows list) (valueAt (order - 1)) in (
-      λ few. rw (kept .asked order least most, lt-ltb (length (acceptedRows list)) 15 (omega (arith, few))),
-      λ enough.
-          kept .answered order least most enough ∙
-          rw (lastOf-enough (valuesOf list order) (omega (arith, count, enough)), count),
-    )
+three-second-answers list order least most kept = (
+  λ few. rw (kept .asked order least most, lt-ltb (length (acceptedRows list)) 15 (omega (arith, few))),
+  λ enough. kept .answered order least most enough ∙ rw (lastOf-enough (valueAt (order - 1)) (acceptedRows list) enough),
+)
 
 latest-kept : (rows : List Row) (order : ℕ) → 1 ≤ order → order ≤ 40 → EachSetup (LatestKept rows order)
 unfolding isSetup isSystem isEdition lastOf
@@ -258,15 +255,13 @@ ValueLeft list words order =
     (threeSecondCallRefusal words order ≡ 0) × (threeSecondCallExit words order 77 ≡ threeSecondOf (drop (n - 15) (valuesOf list order))))
 
 value-left : (list : CallList) (words : List ℕ) (order : ℕ) → 1 ≤ order → order ≤ 40 → CalledThreeSecond list words → ValueLeft list words order
-value-left list words order least most called =
-    let n = length (acceptedRows list) in
-    let count = length-map (acceptedRows list) (valueAt (order - 1)) in (
-      λ few. called .asked order least most ∙ rw (lt-ltb n 15 (omega (arith, few))),
-      λ enough. (
-        called .asked order least most ∙ rw (le-ltb n 15 enough),
-        called .left order least most enough 77 ∙ rw (lastOf-enough (valuesOf list order) (omega (arith, count, enough)), count),
-      ),
-    )
+value-left list words order least most called = (
+  λ few. called .asked order least most ∙ rw (lt-ltb (length (acceptedRows list)) 15 (omega (arith, few))),
+  λ enough. (
+    called .asked order least most ∙ rw (le-ltb (length (acceptedRows list)) 15 enough),
+    called .left order least most enough 77 ∙ rw (lastOf-enough (valueAt (order - 1)) (acceptedRows list) enough),
+  ),
+)
 
 -- ---- the verdict of an order: of a limit of num/den milliamperes, num × K / (1000 × den) units and 150 % of that, 3 × num × K / (2000 × den)
 
