@@ -11,5 +11,6 @@ pub mod LatestRows
 pub mod Demand3
 pub mod BooksExist
 pub mod VerdictsGiven
+pub mod WorkedLists
 pub mod WorkedExample
 pub mod WorkedThreeSeconds

@@ -1,8 +1,8 @@
--- A worked list of calls, with refused ones between two accepted ones. It meets the hypotheses of demand 3 for every kind, both editions and any two windows in range.
+-- The books and the verdicts after a worked list of calls, with refused ones between two accepted ones.
 -- Of the pulse's harmonic groups, document 01's 8944, the third order is then, under both editions, judged over, close and within at K = 3883, 3884 .. 3893 and 3894 in class A, and at K = 2588, 2589 .. 2595 and 2596 in class B.
 use mathlib.Core.Path.{_≡_, refl, sym, ap, subst, _∙_}
 use mathlib.Core.Bool.{true}
-use mathlib.Core.List.{List, [], _∷_, _++_}
+use mathlib.Core.List.{List}
 use Prim.Native.Nat.{ℕ, _+_, _-_}
 use native.Mathlib.Omega.{arith}
 use lib.IntN.{ℤ}
@@ -24,13 +24,12 @@ use Rattle.rows.specs.Systems.{isSystem}
 use Rattle.rows.specs.Editions.{isEdition}
 use Rattle.rows.specs.Setups.{setupOf, isSetup, sameSetup}
 use Rattle.rows.proofs.Editions.{each-edition}
-use Rattle.rows.specs.Orders.{orderCount, isOrder}
-use Rattle.rows.specs.declared.Row.{Row}
+use Rattle.rows.specs.Orders.{isOrder}
 use Rattle.observation.specs.declared.Observation.{Observation}
 use Rattle.observation.specs.Book.{Book, emptyBook, smoothedNext, bookStep}
 use Rattle.observation.specs.Smoothing.{smoothedValue, reported}
 use Rattle.observation.specs.Calls.{rowChecks, bookAt}
-use Rattle.observation.specs.BookCalls.{accepts, acceptedCalls, bookCall, bookAfter, ownValues}
+use Rattle.observation.specs.BookCalls.{accepts, bookCall, bookAfter, ownValues}
 use Rattle.fractions.specs.Parts.{parts, raised, atMost}
 use Rattle.limits.specs.declared.Class.{Class}
 use Rattle.limits.specs.declared.Class.the-variants.{A, B}
@@ -48,58 +47,29 @@ use Rattle.observation.specs.Average.{averageOf, peakOf}
 use Rattle.accuracy.specs.Distance.{EveryOrder, InRange, valueOf}
 use Rattle.accuracy.specs.Rule.{reportedAverage}
 use Rattle.accuracy.specs.CallList.{CallList, after, reportedFrom}
-use Rattle.accuracy.specs.WorkedRows.{Worked}
-use Rattle.accuracy.specs.Claim.{WorkedList, ListHolds, reportedBook}
-use Rattle.accuracy.proofs.Demand3.{demand3}
+use Rattle.accuracy.specs.Claim.{ListHolds, reportedBook}
+use Rattle.accuracy.proofs.WorkedLists.{workedRow, otherRows, listOf, accepted-count, list-worked, list-holds}
 use Rattle.accuracy.proofs.VerdictsGiven.{given-in}
 
-unfoldable pub workedRow : Kind → ℕ → List ℤ → Row
-workedRow kind edition window =
-    record { setup = setupOf 10 edition; values = groupValues kind (setupOf 10 edition) (linesOf window) }
+-- ---- the list with two accepted rows
 
-pub worked-row : (kind : Kind) (edition : ℕ) (window : List ℤ) → InRange window → Worked kind (workedRow kind edition window) window
-unfolding workedRow
-worked-row kind edition window in-range = record { in-range = in-range; values = refl }
+module _
+    (kind : Kind) (window next : List ℤ) (in-range : InRange window) (next-in-range : InRange next)
+    (edition : ℕ) (known : isEdition edition ≡ true)
+  where
+    abbrev example : CallList
+    example = listOf kind window next 1 edition
 
--- of another system, of the other edition, and of none, so that they are refused: 8, 8 and 19
-unfoldable pub otherRows : ℕ → List Row
-otherRows edition =
-    record { setup = setupOf 12 edition; values = replicate orderCount 1 } ∷
-    record { setup = setupOf 10 (1 - edition); values = replicate orderCount 1 } ∷
-    record { setup = setupOf 10 2; values = replicate orderCount 1 } ∷
-    []
-
-module _ (kind : Kind) (window next : List ℤ) where
-  unfoldable pub exampleList : ℕ → CallList
-  exampleList edition =
-      record { setup = setupOf 10 edition; rows = workedRow kind edition window ∷ otherRows edition ++ (workedRow kind edition next ∷ []) }
-
-  module _ (in-range : InRange window) (next-in-range : InRange next) where
-    pub example-worked : (edition : ℕ) → isEdition edition ≡ true → WorkedList kind (exampleList edition)
-    unfolding WorkedList acceptedCalls accepts rowChecks sameSetup isSystem isEdition exampleList workedRow otherRows
-    example-worked =
-        each-edition (λ edition. WorkedList kind (exampleList edition))
-        ((window, worked-row kind 0 window in-range), ((next, worked-row kind 0 next next-in-range), tt))
-        ((window, worked-row kind 1 window in-range), ((next, worked-row kind 1 next next-in-range), tt))
-
-    -- demand 3 holds of it
-    example-holds : (edition : ℕ) → isEdition edition ≡ true → ListHolds kind (exampleList edition)
-    unfolding isSetup isSystem exampleList
-    example-holds edition known = demand3 .lists kind (exampleList edition) known (example-worked edition known)
+    example-holds : ListHolds kind example
+    example-holds = list-holds kind window next 1 (omega arith) in-range next-in-range edition known .0
 
     -- the record holds the reported books
-    example-books :
-        (edition : ℕ) → isEdition edition ≡ true →
-        EveryOrder (λ order. bookAt (after (exampleList edition)) (order - 1) ≡ reportedBook (exampleList edition) order)
-    example-books edition known = example-holds edition known .same-books
+    example-books : EveryOrder (λ order. bookAt (after example) (order - 1) ≡ reportedBook example order)
+    example-books = example-holds .same-books
 
     -- the refused rows aren't counted
-    two-windows : (edition : ℕ) → isEdition edition ≡ true → after (exampleList edition) .windows ≡ 2
-    unfolding reportedFrom bookAfter bookCall ownValues accepts rowChecks sameSetup isSystem isEdition exampleList workedRow otherRows bookStep emptyBook bookAt
-    two-windows =
-        each-edition (λ edition. after (exampleList edition) .windows ≡ 2)
-        (ap (λ (book : Book reported). book .count) (example-books 0 refl 1 (omega arith) (omega arith)))
-        (ap (λ (book : Book reported). book .count) (example-books 1 refl 1 (omega arith) (omega arith)))
+    two-windows : after example .windows ≡ 2
+    two-windows = example-holds .latest .same-windows ∙ accepted-count kind window next 1 (omega arith) edition known
 
 -- ---- the pulse
 
@@ -128,7 +98,7 @@ pulse-group edition order value =
 
 -- the record after the pulse twice, under an edition
 abbrev pulsed : ℕ → Observation
-pulsed edition = after (exampleList HarmonicGroup pulse pulse edition)
+pulsed edition = after (listOf HarmonicGroup pulse pulse 1 edition)
 
 -- the book of an order whose value is the same twice
 abbrev twice : ℕ → Book reported
@@ -136,7 +106,7 @@ twice value = record { count = 2; smoothed = value; sum = value + value; peak = 
 
 pulse-books :
     (bookAt (pulsed 0) 2 ≡ twice 8944) × (bookAt (pulsed 1) 2 ≡ twice 8944) × (bookAt (pulsed 0) 0 ≡ twice 8944) × (bookAt (pulsed 1) 0 ≡ twice 2828)
-unfolding reportedFrom bookAfter bookCall ownValues accepts rowChecks sameSetup isSystem isEdition exampleList workedRow otherRows bookStep emptyBook smoothedNext smoothedValue nearest tabulate groupValues
+unfolding reportedFrom bookAfter bookCall ownValues accepts rowChecks sameSetup isSystem isEdition listOf workedRow otherRows bookStep emptyBook smoothedNext smoothedValue nearest tabulate groupValues
 pulse-books =
     let books = example-books HarmonicGroup pulse pulse pulse-window pulse-window in (
       books 0 refl 3 (omega arith) (omega arith) ∙ rw (pulse-group 0 3 8944 (pulse-values .0)),
@@ -169,11 +139,11 @@ pulse-answer :
     judged (twice 8944) class scale ≡ verdict →
     (edition : ℕ) → isEdition edition ≡ true →
     pulseAnswer class scale edition ≡ Given verdict
-unfolding isSetup isSystem exampleList verdictIn averageOf peakOf bookAt judged
+unfolding isSetup isSystem listOf verdictIn averageOf peakOf bookAt judged
 pulse-answer class scale verdict is-scale is edition known =
-    let worked = example-worked HarmonicGroup pulse pulse pulse-window pulse-window edition known in
+    let worked = list-worked HarmonicGroup pulse pulse 1 (omega arith) pulse-window pulse-window edition known in
     let two = two-windows HarmonicGroup pulse pulse pulse-window pulse-window edition known in
-    given-in HarmonicGroup (exampleList HarmonicGroup pulse pulse edition) known worked (omega (arith, two)) class 3 scale refl is-scale
+    given-in HarmonicGroup (listOf HarmonicGroup pulse pulse 1 edition) known worked (omega (arith, two)) class 3 scale refl is-scale
     ∙ ap Given (subst (λ (book : Book reported). judged book class scale ≡ verdict) (sym (pulse-book edition known)) is)
 
 -- 2.3 × K is 8930.9, 8933.2, 8953.9 and 8956.2 in class A, and 3.45 × K is 8928.6, 8932.05, 8952.75 and 8956.2 in class B; 150 % of each is above the peak with the margin

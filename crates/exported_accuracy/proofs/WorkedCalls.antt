@@ -22,8 +22,7 @@ use Rattle.accuracy.specs.Distance.{EveryOrder, InRange, WithinMargin}
 use Rattle.accuracy.specs.CallList.{acceptedRows}
 use Rattle.accuracy.specs.WorkedRows.{SampledRows}
 use Rattle.accuracy.specs.LatestRows.{exactThreeSecond, lastRows}
-use Rattle.accuracy.proofs.WorkedExample.{workedRow, otherRows, exampleList, example-worked}
-use Rattle.accuracy.proofs.WorkedThreeSeconds.{listOf, accepted-count, list-worked, list-holds}
+use Rattle.accuracy.proofs.WorkedLists.{workedRow, otherRows, listOf, accepted-count, list-worked, list-holds}
 use Rattle.verdict.specs.Question.{asked}
 use Rattle.record_words.specs.Words.{recordWords}
 use Rattle.observe.specs.Observe.{windowRows, observeChecks, observeRefusal}
@@ -69,13 +68,13 @@ module _ (kind : Kind) (window next : List ℤ) where
 
   calls-come-to :
       (edition : ℕ) → isEdition edition ≡ true →
-      (listAfter none (calls 1 edition) ≡ some (exampleList kind window next edition)) ×
+      (listAfter none (calls 1 edition) ≡ some (listOf kind window next 1 edition)) ×
       (listAfter none (calls 15 edition) ≡ some (listOf kind window next 15 edition))
-  unfolding calls listAfter listAtExit listAsked withCall isKind kinds observeRefusal observeChecks windowRows isSetup isSystem isEdition groupValues tabulate exampleList listOf workedRow otherRows
+  unfolding calls listAfter listAtExit listAsked withCall isKind kinds observeRefusal observeChecks windowRows isSetup isSystem isEdition groupValues tabulate listOf workedRow otherRows
   calls-come-to =
       each-edition
       (λ edition.
-      (listAfter none (calls 1 edition) ≡ some (exampleList kind window next edition)) ×
+      (listAfter none (calls 1 edition) ≡ some (listOf kind window next 1 edition)) ×
       (listAfter none (calls 15 edition) ≡ some (listOf kind window next 15 edition)))
       (refl, refl) (refl, refl)
 
@@ -83,10 +82,10 @@ module _ (kind : Kind) (window next : List ℤ) where
       (edition : ℕ) (known : isEdition edition ≡ true) (in-range : InRange window) (next-in-range : InRange next)
       (words : List ℕ) (whole : length words ≡ recordWords)
     where
-      calls-hold : WordsHold kind (exampleList kind window next edition) (wordsAfter words (calls 1 edition))
+      calls-hold : WordsHold kind (listOf kind window next 1 edition) (wordsAfter words (calls 1 edition))
       calls-hold =
           exported-demand3 .lists kind words whole (calls 1 edition) _ (calls-come-to edition known .0)
-          (example-worked kind window next in-range next-in-range edition known)
+          (list-worked kind window next 1 (omega arith) in-range next-in-range edition known)
 
       -- windows of the last 15 rows
       samples : SampledRows kind (lastRows (listOf kind window next 15 edition))
