@@ -1,4 +1,6 @@
 -- The theorem of demand 3.
+pub mod AcceptedWindows
+pub mod Places
 pub mod GroupDistance
 pub mod AcceptedCalls
 pub mod Books

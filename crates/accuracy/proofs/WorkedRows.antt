@@ -1,23 +1,20 @@
 -- A row that is worked from samples holds values of 32 bits, and its value of an order is within the group margin of what an exact book of that order is fed.
 -- So the exact books of an order are near its reported book.
-use mathlib.Core.Path.{_≡_, ap, _∙_}
+use mathlib.Core.Path.{_≡_}
 use mathlib.Core.Bool.{true}
 use mathlib.Core.List.{List}
 use Prim.Native.Nat.{ℕ, _-_}
-use native.Mathlib.Omega.{arith}
 use lib.IntN.{ℤ}
 use Rattle.algebra.specs.Fraction.{Side, lower, upper, SquareWithin}
 use Rattle.algebra.proofs.Fraction.{near-root}
-use Rattle.algebra.proofs.Lists.{getD-tabulate}
 use Rattle.rows.specs.declared.Row.{Row}
 use Rattle.rows.specs.declared.Setup.{Setup}
 use Rattle.rows.specs.Setups.{isSetup}
-use Rattle.rows.specs.Orders.{orderCount}
 use Rattle.rows.specs.Rows.{ValuesFit}
+use Rattle.spectrum.specs.Line.{linesOf}
 use Rattle.groups.specs.declared.Kind.{Kind}
-use Rattle.groups.specs.Group.{groupValues}
 use Rattle.groups.specs.Exact.{exactGroup}
-use Rattle.groups.proofs.GroupSum.{groupValues-le}
+use Rattle.groups.proofs.GroupSum.{groupValues-le, groupValues-at}
 use Rattle.observation.specs.Smoothing.{smoothedMargin}
 use Rattle.observation.specs.BookCalls.{valueAt, AcceptedFit}
 use Rattle.accuracy.specs.Distance.{groupMargin, EveryOrder, valueOf, ValueNear, GroupsNear}
@@ -35,10 +32,7 @@ module _ (kind : Kind) (row : Row) (window : List ℤ) (worked : Worked kind row
 
   -- the value that the row holds of an order
   pub worked-value : EveryOrder (λ order. valueAt (order - 1) row ≡ valueOf kind (row .setup) order window)
-  unfolding groupValues
-  worked-value order positive le =
-      rw (worked .values)
-      (getD-tabulate orderCount _ (order - 1) 0 (omega arith) ∙ ap (λ h. valueOf kind (row .setup) h window) (omega arith))
+  worked-value order positive le = rw (worked .values) (groupValues-at kind (row .setup) (linesOf window) order positive le)
 
   -- it is near the exact group, under a known setup
   pub worked-near :

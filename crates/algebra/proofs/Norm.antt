@@ -1,4 +1,4 @@
--- The norm bound: a vector of whole numbers that is near an exact one at each place has nearly the same norm, the root of the
+-- The norm bound: a vector of whole numbers that is near an exact one has nearly the same norm, the root of the
 -- weighted sum of squares. With P a bound on the norm of the differences and R the whole part of the root, the exact norm is within
 -- P + 1 of R. All is stated over squares and whole numbers: the exact norm need not be a fraction.
 -- It holds for any weights, any vectors, any denominator and any divisor c of the sum.
@@ -8,31 +8,22 @@ use Prim.Native.Nat.{ℕ, _+_, _*_, _-_, _≤_, _<_}
 use native.Mathlib.Nat.{le-trans, le-of-lt, lt-of-lt-of-le, not-le-of-lt, mul-le-mul, mul-le-mul-left, mul-le-mul-right, mul-lt-mul-of-pos-left, mul-pos, le-of-mul-le-mul-left}
 use native.Mathlib.Omega.{arith, by-contra, sub-cases}
 use lib.Dec.{lit<, lit≤}
-use lib.IntN.{ℤ, pos, negsuc, natAbs, _-ℤ_, _*ℤ_}
-use Rattle.algebra.specs.Weighted.{sumOver, weightedSquares, Place, squares, exactSquares, NearVector, RootOver, WithinUnits}
+use lib.IntN.{ℤ, pos, negsuc, natAbs, _*ℤ_}
+use Rattle.algebra.specs.Weighted.{sumOver, weightedSquares, Place, squares, exactSquares, difference, DifferencesWithin, NearVector, RootOver, WithinUnits}
 use Rattle.algebra.proofs.Integer.{natAbs--ℤ-comm, natAbs-le-distance}
 use Rattle.algebra.proofs.Weighted.{triangle-lt, squares-of-multiple, squares-le-weights}
 
--- over the denominator D of the exact numbers: the value, and how far the exact number is from it
+-- the value over the denominator D of the exact numbers
 abbrev scaled : ℕ → Place → ℤ
 scaled D p = pos D *ℤ p .value
 
-abbrev difference : ℕ → Place → ℤ
-difference D p = scaled D p -ℤ p .exact
-
-module _ {places : List Place} {D m n W c P : ℕ} (v : NearVector places D m n W c P) where
-  -- the norm of the differences is at most P
-  differences-le : weightedSquares (λ p. p .weight) (difference D) places ≤ c * (P * D * (P * D))
-  differences-le =
-      let by-weights = squares-le-weights (λ p. p .weight) (difference D) n (m * D) places (v .near) in
-      le-of-mul-le-mul-left {k = n * n} (omega (arith, by-weights, mul-le-mul-right (m * D * (m * D)) (v .weights), mul-le-mul-right (D * D) (v .spread))) (mul-pos (v .distance-denominator-pos) (v .distance-denominator-pos))
-
+module _ {places : List Place} {D c P : ℕ} (v : DifferencesWithin places D c P) where
   scaled-squares : weightedSquares (λ p. p .weight) (scaled D) places ≡ D * D * squares places
   scaled-squares = squares-of-multiple (λ p. p .weight) (pos D) (λ p. p .value) places
 
   -- The exact sum of squares from above: if S / c is below the square of t, then E / D² / c is below the square of t + P.
   pub exact-squares-lt : (t : ℕ) → squares places < c * (t * t) → exactSquares places < c * ((t + P) * (t + P)) * (D * D)
-  exact-squares-lt t h = lt-of-lt-of-le (triangle-lt (λ p. p .weight) (λ p. p .exact) (scaled D) (difference D) exact-le places c (t * D) (P * D) below differences-le) (omega arith)
+  exact-squares-lt t h = lt-of-lt-of-le (triangle-lt (λ p. p .weight) (λ p. p .exact) (scaled D) (difference D) exact-le places c (t * D) (P * D) below (v .spread)) (omega arith)
     where
       exact-le : (p : Place) → natAbs (p .exact) ≤ natAbs (scaled D p) + natAbs (difference D p)
       exact-le p = omega (arith, natAbs-le-distance (p .exact) (scaled D p), natAbs--ℤ-comm (p .exact) (scaled D p))
@@ -42,7 +33,7 @@ module _ {places : List Place} {D m n W c P : ℕ} (v : NearVector places D m n 
 
   -- From below: if S / c is at least the square of t + P, then E / D² / c is at least the square of t.
   exact-squares-ge : (t : ℕ) → c * ((t + P) * (t + P)) ≤ squares places → c * (t * t) * (D * D) ≤ exactSquares places
-  exact-squares-ge t h = by-contra (c * (t * t) * (D * D)) (exactSquares places) (λ l. omega (arith, scaled-squares, mul-le-mul-left (D * D) h, triangle-lt (λ p. p .weight) (scaled D) (λ p. p .exact) (difference D) scaled-le places c (t * D) (P * D) (omega arith) differences-le))
+  exact-squares-ge t h = by-contra (c * (t * t) * (D * D)) (exactSquares places) (λ l. omega (arith, scaled-squares, mul-le-mul-left (D * D) h, triangle-lt (λ p. p .weight) (scaled D) (λ p. p .exact) (difference D) scaled-le places c (t * D) (P * D) (omega arith) (v .spread)))
     where
       scaled-le : (p : Place) → natAbs (scaled D p) ≤ natAbs (p .exact) + natAbs (difference D p)
       scaled-le p = natAbs-le-distance (scaled D p) (p .exact)
@@ -66,6 +57,15 @@ module _ {places : List Place} {D m n W c P : ℕ} (v : NearVector places D m n 
     where
       less : r - (P + 1) ≤ r - P
       less = omega arith
+
+-- Values that are each near their exact number: the norm of the differences is at most P.
+pub near-differences : {places : List Place} {D m n W c P : ℕ} → NearVector places D m n W c P → DifferencesWithin places D c P
+near-differences {places} {D} {m} {n} {W} {c} {P} v =
+    let by-weights = squares-le-weights (λ p. p .weight) (difference D) n (m * D) places (v .near) in
+    record {
+      exact-denominator-pos = v .exact-denominator-pos;
+      spread = le-of-mul-le-mul-left {k = n * n} (omega (arith, by-weights, mul-le-mul-right (m * D * (m * D)) (v .weights), mul-le-mul-right (D * D) (v .spread))) (mul-pos (v .distance-denominator-pos) (v .distance-denominator-pos));
+    }
 
 -- ---- the bound at numbers
 
@@ -93,7 +93,7 @@ unfolding workedPlaces sumOver
 worked-root = record { low = lit≤ tt; high = lit< tt }
 
 worked-within : WithinUnits 1 (exactSquares workedPlaces) 4 692 7
-worked-within = norm-within worked-near 692 worked-root
+worked-within = norm-within (near-differences worked-near) 692 worked-root
 
 -- 6 units are too few there, so P + 1 cannot be lowered to P
 worked-not-within-six : ¬ WithinUnits 1 (exactSquares workedPlaces) 4 692 6

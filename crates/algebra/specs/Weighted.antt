@@ -36,9 +36,18 @@ squares = weightedSquares (λ p. p .weight) (λ p. p .value)
 abbrev pub exactSquares : List Place → ℕ
 exactSquares = weightedSquares (λ p. p .weight) (λ p. p .exact)
 
+-- the value over the denominator D of the exact numbers, less the exact number
+abbrev pub difference : ℕ → Place → ℤ
+difference D p = pos D *ℤ p .value -ℤ p .exact
+
+-- the differences, as fractions over D, have a weighted sum of squares of at most c · P²
+pub record DifferencesWithin (places : List Place) (D c P : ℕ) : Type 0 where
+  pub exact-denominator-pos : 0 < D
+  pub spread : weightedSquares (λ p. p .weight) (difference D) places ≤ c * (P * D * (P * D))
+
 -- the value is within m/n of the exact number, whose denominator is D
 abbrev pub Near : (D m n : ℕ) → Place → Type 0
-Near D m n p = n * natAbs (pos D *ℤ p .value -ℤ p .exact) ≤ m * D
+Near D m n p = n * natAbs (difference D p) ≤ m * D
 
 -- Each value is within m/n of its exact number, and the weights total at most W. Then the differences have a weighted sum of squares
 -- of at most W · (m/n)², and c · P² is a bound on that.

@@ -7,28 +7,17 @@ use lib.IntN.{ℤ}
 use Rattle.refusals.specs.Numbers.{noRefusal}
 use Rattle.refusals.specs.Answers.{firstFault}
 use Rattle.spectrum.specs.Line.{windowAt, linesOf}
-use Rattle.spectrum.specs.Spectrum.{spectrumRefusal, spectrumExit}
-use Rattle.spectrum.proofs.Accepted as Accepted
 use Rattle.groups.specs.Group.{groupRefusal}
 use Rattle.groups.proofs.GroupSum.{accepted, accepted-value}
 use Rattle.rows.specs.declared.Setup.{Setup}
 use Rattle.rows.proofs.Orders.{order-bounds}
-use Rattle.accuracy.specs.Distance.{InRange, GroupsNear}
+use Rattle.accuracy.specs.Distance.{GroupsNear}
+use Rattle.accuracy.proofs.AcceptedWindows.{window-in-range, lines-left}
 use Rattle.accuracy.proofs.GroupDistance.{groups-near}
 use Rattle.exported_windows.specs.Kinds.{kindWith, kindCheck}
 use Rattle.exported_windows.specs.GroupCalls.{groupCallRefusal, groupCallExit, rowCallRefusal, rowCallExit}
 use Rattle.exported_answers.proofs.Handed.{own-first-none}
 use Rattle.exported_accuracy.specs.Claim.{CalledGroup, CalledRow}
-
-module _ (recording : List ℤ) (start : ℕ) (buffer : List ℕ) (taken : spectrumRefusal recording start buffer ≡ noRefusal) where
-  window-in-range : InRange (windowAt recording start)
-  window-in-range =
-      let call = Accepted.accepted recording start buffer taken in
-      record { whole-window = call .whole-window; samples = call .in-range }
-
-  lines-left : spectrumExit recording start buffer ≡ linesOf (windowAt recording start)
-  unfolding spectrumExit
-  lines-left = rw taken
 
 pub called-group :
     (recording : List ℤ) (start : ℕ) (buffer : List ℕ) (number : ℕ) (setup : Setup) (order before : ℕ) →

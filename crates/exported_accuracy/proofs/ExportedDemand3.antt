@@ -6,7 +6,7 @@ use mathlib.Core.Option.{none}
 use Prim.Native.Nat.{ℕ, _-_, _≤_}
 use borrow.Author.Tests.{eq-eqb, le-ltb}
 use lib.Dec.{ltb}
-use lib.ListN.{length}
+use lib.ListN.{length, getD}
 use native.Mathlib.Omega.{arith}
 use lib.IntN.{ℤ}
 use Rattle.refusals.specs.Numbers.{noRefusal, tooFewWindows}
@@ -27,7 +27,7 @@ use Rattle.accuracy.specs.Claim.{WorkedList, ListHolds, reportedBook, observedL
 use Rattle.accuracy.proofs.WorkedRows.{worked-list-fits}
 use Rattle.accuracy.proofs.Demand3.{demand3}
 use Rattle.exported_answers.specs.OwnChecks.{wordCountCheck}
-use Rattle.record_words.specs.Words.{recordWords}
+use Rattle.record_words.specs.Words.{recordWords, partsOf}
 use Rattle.record_words.proofs.Words.{smoothed-word}
 use Rattle.exported_windows.specs.Kinds.{kindWith, kindCheck}
 use Rattle.exported_windows.specs.ObserveCall.{observeCallRefusal, observeCallExit}
@@ -77,10 +77,11 @@ module _
     claimed = demand3 .lists kind list (follows .known) worked
 
     smoothed-held : EveryOrder (λ order. smoothedWord words order ≡ reportedBook list order .smoothed)
-    unfolding bookAt
+    unfolding bookAt partsOf
     smoothed-held order positive le =
+        let count = ap (λ (counts : List ℕ). getD counts 3 0) (after-whole list (follows .known) fits .parts) in
         rw (follows .held fits)
-        (smoothed-word (after list) (order - 1) (after-whole list (follows .known) fits) (omega arith) ∙
+        (smoothed-word (after list) (order - 1) (omega (arith, count)) ∙
         ap (λ (book : Book reported). book .smoothed) (claimed .same-books order positive le))
 
     called-verdict :

@@ -1,5 +1,5 @@
 -- What is known of a group call that is not refused: its sum of 2×w×L fits 64 bits without sign, its value 32. A row is refused where the values of its orders are.
-use mathlib.Core.Path.{_≡_, refl, sym, _∙_}
+use mathlib.Core.Path.{_≡_, refl, sym, ap, _∙_}
 use mathlib.Core.Bool.{true, false}
 use mathlib.Core.List.{List}
 use Prim.Native.Nat.{ℕ, _+_, _-_, _^_, _≤_, _<_}
@@ -11,7 +11,7 @@ use lib.IntN.{ℤ}
 use lib.ListN.{length, getD, replicate, List·getD-eq-default}
 use borrow.Author.Tests.{ltb-false, eqb-true, ne-eqb, not-false}
 use Rattle.algebra.specs.Lists.{tabulate, anyOf}
-use Rattle.algebra.proofs.Lists.{anyOf-none, getD-tabulate-le, tabulate-same}
+use Rattle.algebra.proofs.Lists.{getD-tabulate, anyOf-none, getD-tabulate-le, tabulate-same}
 use Rattle.integers.proofs.Root.{lt-rootLimit, root-of-largest, root-le-of-le}
 use Rattle.refusals.specs.Numbers.{noRefusal, unknownSystem, unknownEdition, orderOutOfRange, wrongLineCount, lineTooLarge}
 use Rattle.refusals.proofs.Answers.{no-faults, unlessRefused-accepted, unlessRefused-refused}
@@ -114,6 +114,14 @@ module _ (kind : Kind) (setup : Setup) (lines : List ℕ) where
   pub groupValues-le : (i : ℕ) → getD (groupValues kind setup lines) i 0 ≤ largestValue
   unfolding groupValues
   groupValues-le = getD-tabulate-le orderCount _ largestValue (λ j inside. answered-value-le kind setup (j + 1) lines)
+
+  -- the value of an order in a row
+  pub groupValues-at :
+      (order : ℕ) → 0 < order → order ≤ orderCount →
+      getD (groupValues kind setup lines) (order - 1) 0 ≡ groupAnswer kind setup order lines .value
+  unfolding groupValues
+  groupValues-at order positive le =
+      getD-tabulate orderCount _ (order - 1) 0 (omega arith) ∙ ap (λ h. groupAnswer kind setup h lines .value) (omega arith)
 
   -- the values of a row that is refused are 0
   refused-values : (groupRowRefusal setup lines ≡ noRefusal → ⊥) → groupValues kind setup lines ≡ replicate orderCount 0

@@ -5,12 +5,10 @@ use mathlib.Core.List.{List, [], _∷_, _++_, map, append-assoc, append-nil}
 use Prim.Native.Nat.{ℕ, min, _+_, _<_}
 use native.Mathlib.Nat.{le-of-eq}
 use native.Mathlib.Omega.{arith}
-use lib.ListN.{length, getD}
-use lib.Seq.{take-all}
+use lib.ListN.{length, getD, List·getD-append}
+use lib.Seq.{take-all, getD-append-add}
 use borrow.Author.Tests.{eq-eqb}
 use Rattle.algebra.specs.Lists.{tabulate, joined}
-use Rattle.algebra.proofs.Lists.{getD-tabulate}
-use Rattle.rows.specs.Orders.{orderCount}
 use Rattle.rows.specs.Rows.{largestValue}
 use Rattle.rows.proofs.Systems.{system-bounds}
 use Rattle.rows.proofs.Editions.{edition-le}
@@ -80,14 +78,12 @@ wordsOf-length o parts = joined-length (partsOf o) ∙ ap total parts
 
 -- the word of a smoothed value
 pub smoothed-word :
-    (o : Observation) (i : ℕ) →
-    Whole o →
-    i < orderCount →
-    getD (wordsOf o) (smoothedPlace + i) 0 ≡ getD (o .smoothed) i 0
-unfolding recordOf ofParts partsFrom wordsFrom
-smoothed-word o i whole inside =
-    sym (getD-tabulate orderCount (λ k. getD (wordsOf o) (smoothedPlace + k) 0) i 0 inside) ∙
-    ap (λ (held : Observation). getD (held .smoothed) i 0) (record-of-words o whole)
+    (o : Observation) (i : ℕ) → i < length (o .smoothed) → getD (wordsOf o) (smoothedPlace + i) 0 ≡ getD (o .smoothed) i 0
+unfolding wordsOf partsOf joined
+smoothed-word o i inside =
+    let later = joined (o .sum ∷ o .peak ∷ packed (o .latest) ∷ []) in
+    getD-append-add (o .setup .system ∷ o .setup .edition ∷ o .windows ∷ []) (o .smoothed ++ later) i 0
+    ∙ List·getD-append (o .smoothed) later 0 i inside
 
 -- 423 words after a record is put into them
 pub wordsWith-whole : (o : Observation) (words : List ℕ) → length words ≡ recordWords → wordsWith o words ≡ wordsOf o

@@ -1,0 +1,20 @@
+-- A call of spectrum that is not refused: its window is in range, and it leaves the window's lines.
+use mathlib.Core.Path.{_≡_}
+use mathlib.Core.List.{List}
+use Prim.Native.Nat.{ℕ}
+use lib.IntN.{ℤ}
+use Rattle.refusals.specs.Numbers.{noRefusal}
+use Rattle.spectrum.specs.Line.{windowAt, linesOf}
+use Rattle.spectrum.specs.Spectrum.{spectrumRefusal, spectrumExit}
+use Rattle.spectrum.proofs.Accepted.{accepted}
+use Rattle.accuracy.specs.Distance.{InRange}
+
+module _ (recording : List ℤ) (start : ℕ) (buffer : List ℕ) (taken : spectrumRefusal recording start buffer ≡ noRefusal) where
+  pub window-in-range : InRange (windowAt recording start)
+  window-in-range =
+      let call = accepted recording start buffer taken in
+      record { whole-window = call .whole-window; samples = call .in-range }
+
+  pub lines-left : spectrumExit recording start buffer ≡ linesOf (windowAt recording start)
+  unfolding spectrumExit
+  lines-left = rw taken
