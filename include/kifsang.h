@@ -58,6 +58,19 @@
  *     of the orders 2..40, so the same windows have the same verdicts in both; the distortion of a row of
  *     harmonic groups is a ratio to order 1, so it may differ.
  *
+ * One bad sample
+ *
+ *     A glitch of the converter that moves one sample of a window by d counts moves a group value, of any
+ *     kind, order, system and edition, by at most 10 * d + 14 units. It moves the smoothed value after it by
+ *     at most (10 * d + 14) / 8.012 units, rounded up, if the record held at least one window before; in the
+ *     first window of a record the smoothed value is the group value. With 4,000 counts in an ampere, so
+ *     16,384,000 units, a sample that is off by 1 A moves a group value by at most 40,014 units, 2.45 mA, and
+ *     the smoothed value by at most 4,995 units, 0.305 mA; one that is off by the whole range, 262,142 counts
+ *     or 65.5 A, by at most 160 mA and 20.0 mA. A sample that the glitch takes out of range is refused (3).
+ *     This is proved of kifsang_spectrum, kifsang_group_value, kifsang_row and kifsang_add_row, for every
+ *     window, every place of the sample and every d (exported-glitch; ExportedGlitchHolds,
+ *     crates/exported_accuracy/specs/Glitch.antt).
+ *
  * Limits
  *
  *     Class A, in milliamperes: order 2 1080, 3 2300, 4 430, 5 1140, 6 300, 7 770, 9 400, 11 330,
@@ -266,7 +279,8 @@ uint32_t kifsang_lines_from(const int32_t *recording, uint64_t recording_length,
  * Refusals: 101 no such kind; 1 system not 10 or 12; 19 edition not 0 or 1; 6 order outside 1..40; 4
  *   line_count is not 512; 5 a line above 2^59. A refused call leaves the value as it was.
  * Proved error: for the lines that kifsang_spectrum left for a window, the value is at most 7 units
- *   from the exact group of the edition (exported-demand3).
+ *   from the exact group of the edition (exported-demand3). What one bad sample of the window can do to
+ *   it stands above.
  * Definition: groupCallRefusal and groupCallExit, crates/exported_windows/specs/GroupCalls.antt.
  */
 uint32_t kifsang_group_value(uint32_t kind, uint32_t system, uint32_t edition, uint32_t order,
@@ -343,7 +357,8 @@ uint32_t kifsang_fresh_record(uint32_t system, uint32_t edition, uint64_t *recor
  *   record holds 45,000 windows. A refused call leaves the record as it was.
  * Proved error: after any calls since a fresh record or an observation, where the rows that were added
  *   come from kifsang_spectrum and kifsang_row, all of one kind and with their own system and edition,
- *   each smoothed value is at most 12 units from the exact one (exported-demand3).
+ *   each smoothed value is at most 12 units from the exact one (exported-demand3). What one bad sample of
+ *   the row's window can do to it stands above.
  * Definition: addRowCallRefusal and addRowCallExit, crates/exported_records/specs/RecordCalls.antt.
  */
 uint32_t kifsang_add_row(uint64_t *record, uint64_t record_words, uint32_t system, uint32_t edition,

@@ -1,6 +1,7 @@
 -- The laws of rounding to the nearest, halves up (specs/Rounding.antt): at most a half off, no other number is, monotone, and a whole number of divisors more is as many more.
 -- Below 0 a half goes up too, that is towards zero. Every divisor is above 0.
 use mathlib.Core.Bool.{Bool, true, false, not, cond}
+use mathlib.Core.List.{[], _∷_}
 use mathlib.Core.Path.{_≡_, refl, sym, ap, _∙_}
 use Prim.Native.Nat.{ℕ, zero, suc, _+_, _*_, _-_, _/_, _%_, _^_, _≤_, _<_}
 use native.Mathlib.Nat.{le-refl, le-trans, le-antisymm, zero-mul, le-div-iff-mul-le, div-mul-le-self, mod-lt, div-add-mod, div-eq-of-lt-le, mul-le-mul-left, mul-div-le, lt-mul-div-succ, add-div-right, div-eq-of-lt, div-div-eq-div-mul, mul-zero, pow-succ', one-le-pow}
@@ -8,7 +9,9 @@ use native.Mathlib.Omega.{arith, by-contra}
 use lib.Dec.{T, ltb, ltb→lt, nltb→le, leb→le, le→leb, lit<, lit≤}
 use lib.IntN.{ℤ, pos, negsuc, negℤ, natAbs, subℕ, _+ℤ_, _-ℤ_, _*ℤ_, +ℤ-idr, +ℤ-assoc, +ℤ-comm, +ℤ-sucℤ, sucℤ-*ℤ, *ℤ-comm, negℤ-negℤ}
 use lib.Signed.{shrZ, _≤ℤ_, leZ-yes}
-use Rattle.algebra.specs.Rounding.{nearest, floorOver, nearestℤ}
+use Rattle.algebra.specs.Rounding.{nearest, floorOver, nearestℤ, roundedUp}
+use Rattle.algebra.proofs.Integer.{natAbs-negℤ, natAbs-*ℤ, natAbs-+ℤ-le}
+use Rattle.algebra.proofs.Ring.{variable, constant, _⊕_, _⊖_, _⊗_, ring}
 
 -- 5/2 and −5/2 go up by a half, −2 stays and the whole part of −5/2 is −3
 halves-up : (nearest 5 2 ≡ 3) × (nearestℤ (negsuc 4) 2 ≡ negsuc 1) × (nearestℤ (negsuc 3) 2 ≡ negsuc 1) × (floorOver (negsuc 4) 2 ≡ negsuc 2)
@@ -45,6 +48,16 @@ nearest-add n k d p =
 
 pub nearest-le-add : {m : ℕ} (n k d : ℕ) → 0 < d → m ≤ n + k * d → nearest m d ≤ nearest n d + k
 nearest-le-add n k d p h = rw (← nearest-add n k d) (nearest-mono d p h)
+
+-- n over d rounded up is the least number of divisors that come to n
+pub roundedUp-enough : (n d : ℕ) → 0 < d → n ≤ roundedUp n d * d
+unfolding roundedUp
+roundedUp-enough n d p = omega (arith, lt-mul-div-succ (n + (d - 1)) {b = d} p)
+
+roundedUp-least : (n k d : ℕ) → 0 < d → n ≤ k * d → roundedUp n d ≤ k
+unfolding roundedUp
+roundedUp-least n k d p h =
+    by-contra ((n + (d - 1)) / d) k λ l. omega (arith, mul-div-le (n + (d - 1)) d, mul-le-mul-left d l)
 
 pub nearest-whole : (k d : ℕ) → 0 < d → nearest (d * k) d ≡ k
 nearest-whole k d p = sym (nearest-unique p (record { low = omega arith; high = omega arith }))
@@ -103,15 +116,11 @@ nearestℤ-negsuc n d p =
     let twice : 2 * suc n ≡ suc (2 * n + 1) = omega arith in
     rw twice (floor-difference d (2 * n + 1) d (2 * d) p (omega arith))
 
-natAbs-neg : (x : ℕ) → natAbs (negℤ (pos x)) ≡ x
-natAbs-neg zero = refl
-natAbs-neg (suc x) = refl
-
 -- the rounded value is at most the rounded magnitude
 pub natAbs-nearestℤ-le : (z : ℤ) (d : ℕ) → 0 < d → natAbs (nearestℤ z d) ≤ nearest (natAbs z) d
 natAbs-nearestℤ-le (pos n) d p = rw nearestℤ-pos (le-refl _)
 natAbs-nearestℤ-le (negsuc n) d p =
-    rw (nearestℤ-negsuc, natAbs-neg)
+    rw (nearestℤ-negsuc, natAbs-negℤ)
     (by-contra ((2 * n + 1 + d) / (2 * d)) (nearest (suc n) d) λ l.
     omega (arith, nearest-is (suc n) d p, mul-div-le (2 * n + 1 + d) (2 * d), mul-le-mul-left d l))
 
@@ -134,6 +143,37 @@ nearestℤ-half (negsuc n) d p =
     (difference-le (2 * suc n) (2 * d * (u / (2 * d))) d
     (omega (arith, lt-mul-div-succ u {b = 2 * d} (omega arith)))
     (omega (arith, mul-div-le u (2 * d))))
+
+-- the distance of two rounded numbers in parts: each one's rounding, and the step between the numbers
+distance-in-parts :
+    (d r s z w : ℤ) →
+    d *ℤ (r -ℤ s) ≡ (d *ℤ r -ℤ pos 2 *ℤ z) -ℤ (d *ℤ s -ℤ pos 2 *ℤ w) +ℤ pos 2 *ℤ (z -ℤ w)
+distance-in-parts d r s z w =
+    let d' = variable 0 in let r' = variable 1 in let s' = variable 2 in let z' = variable 3 in let w' = variable 4 in
+    let two = constant (pos 2) in
+    ring (d' ⊗ (r' ⊖ s')) ((d' ⊗ r' ⊖ two ⊗ z') ⊖ (d' ⊗ s' ⊖ two ⊗ w') ⊕ two ⊗ (z' ⊖ w')) tt
+    (d ∷ r ∷ s ∷ z ∷ w ∷ [])
+
+-- two rounded numbers are at most 1 farther apart than the fractions
+pub nearestℤ-apart :
+    (z w : ℤ) (d : ℕ) → 0 < d → d * natAbs (nearestℤ z d -ℤ nearestℤ w d) ≤ natAbs (z -ℤ w) + d
+nearestℤ-apart z w d p =
+    let r = nearestℤ z d in
+    let s = nearestℤ w d in
+    let a = pos (2 * d) *ℤ r -ℤ pos 2 *ℤ z in
+    let b = pos (2 * d) *ℤ s -ℤ pos 2 *ℤ w in
+    let step = pos 2 *ℤ (z -ℤ w) in
+    omega (
+      arith,
+      natAbs-*ℤ (pos (2 * d)) (r -ℤ s),
+      ap natAbs (distance-in-parts (pos (2 * d)) r s z w),
+      natAbs-+ℤ-le (a -ℤ b) step,
+      natAbs-+ℤ-le a (negℤ b),
+      natAbs-negℤ b,
+      natAbs-*ℤ (pos 2) (z -ℤ w),
+      nearestℤ-half z d p,
+      nearestℤ-half w d p,
+    )
 
 -- ---- with a sign: monotone, and whole numbers of divisors
 

@@ -3,6 +3,7 @@ use mathlib.Core.Path.{_≡_, refl, sym, _∙_, ap, ap₂}
 use mathlib.Core.List.{[], _∷_}
 use Prim.Native.Nat.{ℕ, zero, suc, _+_, _-_, _*_, _^_, _≤_, _<_}
 use native.Mathlib.Nat.{le-refl, le-step, le-trans, add-le-add, add-zero, add-suc, sub-zero, suc-sub-suc}
+use native.Mathlib.Decide.{ℕ-discrete}
 use native.Mathlib.Omega.{arith}
 use lib.IntN.{ℤ, pos, negℤ, natAbs, _+ℤ_, _-ℤ_, _*ℤ_, *ℤ-zero, negℤ-+ℤ, +ℤ-assoc, +ℤ-comm, +ℤ-idr}
 use Rattle.algebra.specs.Sums.{sumTo}
@@ -47,6 +48,23 @@ sumTo-natAbs-le zero b f h = omega arith
 sumTo-natAbs-le (suc n) b f h =
     le-trans (natAbs-+ℤ-le (sumTo n f) (f n))
     (le-trans (add-le-add (sumTo-natAbs-le n b f (λ j l. h j (le-step l))) (h n (le-refl (suc n)))) (omega arith))
+
+-- summands that are 0 but for the one at a place: the sum is no farther from 0 than that one
+pub sumTo-one-natAbs-le :
+    (n place : ℕ) (f : ℕ → ℤ) → ((j : ℕ) → ¬ (j ≡ place) → f j ≡ pos 0) → natAbs (sumTo n f) ≤ natAbs (f place)
+unfolding sumTo
+sumTo-one-natAbs-le zero place f zeros = omega arith
+sumTo-one-natAbs-le (suc n) place f zeros = either (sumTo-one-natAbs-le n place f zeros) (ℕ-discrete n place)
+  where
+    either : natAbs (sumTo n f) ≤ natAbs (f place) → Dec (n ≡ place) → natAbs (sumTo n f +ℤ f n) ≤ natAbs (f place)
+    either before (yes here) =
+        omega (
+          arith,
+          natAbs-+ℤ-le (sumTo n f) (f n),
+          sumTo-natAbs-le n 0 f (λ j l. rw (zeros j (λ e. omega arith)) (omega arith)),
+          ap (λ j. natAbs (f j)) here,
+        )
+    either before (no elsewhere) = omega (arith, natAbs-+ℤ-le (sumTo n f) (f n), before, ap natAbs (zeros n elsewhere))
 
 -- the same summands
 pub sumTo-same : (n : ℕ) (f g : ℕ → ℤ) → ((j : ℕ) → j < n → f j ≡ g j) → sumTo n f ≡ sumTo n g

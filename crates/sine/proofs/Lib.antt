@@ -3,3 +3,4 @@ pub mod Turn
 pub mod ExactSine
 pub mod Wave
 pub mod Symmetry
+pub mod Circle

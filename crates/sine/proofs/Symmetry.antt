@@ -15,7 +15,7 @@ use Rattle.sine.proofs.Wave.{tableSine-mod}
 
 module _ (f : ℕ → ℕ) where
   -- the first half turn goes back as it came
-  overHalf-mirrored : (r s : ℕ) → r + s ≡ halfTurn → overHalf f r ≡ overHalf f s
+  pub overHalf-mirrored : (r s : ℕ) → r + s ≡ halfTurn → overHalf f r ≡ overHalf f s
   overHalf-mirrored r s sum = ⊎-elim (λ up. ⊎-elim (both-up up) (back up) (le-or-lt s quarterTurn)) down (le-or-lt r quarterTurn)
     where
       both-up : r ≤ quarterTurn → s ≤ quarterTurn → overHalf f r ≡ overHalf f s

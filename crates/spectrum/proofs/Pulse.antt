@@ -28,7 +28,7 @@ unfolding pulse anyOf outOfRange
 pulse-in-range = refl
 
 -- a sample 0 and a sample 3, the rest 0
-unfoldable twoSamples : ℤ → ℤ → List ℤ
+unfoldable pub twoSamples : ℤ → ℤ → List ℤ
 twoSamples a b = a ∷ pos 0 ∷ pos 0 ∷ b ∷ replicate 2044 (pos 0)
 
 module _ (a b : ℤ) where
@@ -53,7 +53,7 @@ module _ (a b : ℤ) where
       rw (+ℤ-idl, first-four .0, first-four .1, first-four .2, first-four .3, zero-mul) (simp (zero-*ℤ, +ℤ-idr))
   partialSum wave k (suc n) = rw (rest n, zero-*ℤ, +ℤ-idr) (partialSum wave k n)
 
-  twoSamples-line : (k : ℕ) → lineOf (twoSamples a b) k
+  pub twoSamples-line : (k : ℕ) → lineOf (twoSamples a b) k
       ≡ square (nearestℤ (a *ℤ tableCosine 0 +ℤ b *ℤ tableCosine (3 * k)) sumScale)
       + square (nearestℤ (a *ℤ tableSine 0 +ℤ b *ℤ tableSine (3 * k)) sumScale)
   unfolding lineOf roundedSum lineSum

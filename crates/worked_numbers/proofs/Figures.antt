@@ -60,7 +60,7 @@ use Rattle.exported_accuracy.specs.Claim.{CalledThreeSecond, WordsHold}
 use Rattle.exported_accuracy.proofs.ExportedDemand3.{exported-demand3}
 
 -- at 50 Hz and at 60 Hz, under edition 2 and under A1
-abbrev EachSetup : (Setup → Type 0) → Type 0
+abbrev pub EachSetup : (Setup → Type 0) → Type 0
 EachSetup P = P (setupOf 10 0) × P (setupOf 12 0) × P (setupOf 10 1) × P (setupOf 12 1)
 
 -- ---- 7 units

@@ -1,4 +1,5 @@
 -- The theorem over the marked worked numbers.
 pub mod Worked
 pub mod Figures
+pub mod GlitchFigures
 pub mod ExportedCalls

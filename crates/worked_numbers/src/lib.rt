@@ -1,2 +1,3 @@
-// The worked numbers of document 01 that it marks, the pulse's under A1, the exported calls and the
-// margins of demand 3 in figures, proved of the definitions that the contracts cite; no code.
+// The worked numbers of document 01 that it marks, the pulse's under A1, the exported calls, the
+// margins of demand 3 and the bounds of one bad sample in figures, proved of the definitions that the
+// contracts cite; no code.

@@ -3,6 +3,7 @@
 use crate::{numbers, setup, system_and_edition, Tally, EDITIONS};
 use kifsang::{LINE_COUNT, LINE_LIMIT, ORDER_COUNT, WINDOW_LENGTH};
 use reference::annex_c::{comparison, own_spectrum, Agreement};
+use reference::glitch;
 use reference::groups::{group_row, group_value, Kind};
 use reference::random::Random;
 use reference::rows::Setup;
@@ -218,6 +219,12 @@ pub fn compare(tally: &mut Tally, seed: u64) {
     windows.extend(signals::seeded_windows(seed));
     for system in [10, 12] {
         windows.extend(signals::appliances(WINDOW_LENGTH, system, seed));
+    }
+    for glitch in glitch::whole_range([1, 40].into_iter())
+        .into_iter()
+        .chain(glitch::seeded(seed, 1))
+    {
+        windows.extend([glitch.one, glitch.other]);
     }
     for signal in &windows {
         compare_spectrum(tally, &signal.name, &signal.samples, 0, LINE_COUNT);

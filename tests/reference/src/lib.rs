@@ -8,6 +8,7 @@ pub mod annex_c;
 pub mod columns;
 pub mod distortion;
 pub mod exact_group;
+pub mod glitch;
 pub mod groups;
 pub mod harmlist;
 pub mod inputs;

@@ -2,10 +2,14 @@
 
 use reference::annex_c::print_comparison;
 use reference::exact_group::{GROUP_MARGIN, exact_lines};
+use reference::glitch::{
+    Moved, WHOLE_RANGE, group_shift, moved, seeded, smoothed_shift, whole_range,
+};
 use reference::groups::{Kind, group_value};
 use reference::harmlist::harmlist;
 use reference::inputs::{all_inputs, input_bytes, sample_bytes};
-use reference::rows::{ORDER_COUNT, Setup};
+use reference::observation::{Observation, add_row, fresh_record};
+use reference::rows::{ORDER_COUNT, Row, Setup};
 use reference::signals::{appliances, plain_windows, seeded_windows};
 use reference::spectrum::{WINDOW_LENGTH, lines_of};
 use reference::table::quarter_wave;
@@ -22,6 +26,7 @@ const USAGE: &str = "usage:
   reference inputs SEED DIRECTORY            inputs of harmlist, each with its output
   reference recording SYSTEM WINDOWS SEED    one long input of harmlist
   reference distances SEED                   greatest distance from the exact groups
+  reference glitches SEED                    how far one bad sample moves a value
   reference annex-c                          the examples of IEC 61000-4-7, annex C";
 
 type Outcome = Result<(), Box<dyn Error>>;
@@ -103,6 +108,31 @@ fn print_distances(seed: u64, mut output: impl Write) -> Outcome {
     Ok(())
 }
 
+/// A record of the setup that holds one window of silence.
+fn silent_record(setup: Setup) -> Observation {
+    add_row(fresh_record(setup).0, &Row { setup, values: [0; ORDER_COUNT] }).0
+}
+
+/// How far each glitch moves a group and a smoothed value, and last the greatest
+/// ratio of a group's move to a glitch of the whole range.
+fn print_glitches(seed: u64, mut output: impl Write) -> Outcome {
+    writeln!(output, "d: units of at most 10×d + 14 that a group moves, units of at most")?;
+    writeln!(output, "(10×d + 14)/8.012 that a smoothed value moves, and the glitch")?;
+    let mut greatest = 0.0_f64;
+    for glitch in whole_range(1..=ORDER_COUNT as u64).iter().chain(&seeded(seed, 5)) {
+        let Moved { group, smoothed } = moved(glitch, silent_record);
+        let size = glitch.size;
+        let allowed = (group_shift(size), smoothed_shift(size));
+        let name = &glitch.other.name;
+        writeln!(output, "{size}: {group} of {}, {smoothed} of {}, {name}", allowed.0, allowed.1)?;
+        if size == WHOLE_RANGE {
+            greatest = greatest.max(group as f64 / size as f64);
+        }
+    }
+    writeln!(output, "d = {WHOLE_RANGE}: a group moves by up to {greatest:.6} times d")?;
+    Ok(())
+}
+
 fn run(arguments: &[&str], output: impl Write) -> Outcome {
     match *arguments {
         ["harmlist"] => run_harmlist(output),
@@ -113,6 +143,7 @@ fn run(arguments: &[&str], output: impl Write) -> Outcome {
             print_recording(system.parse()?, windows.parse()?, seed.parse()?, output)
         }
         ["distances", seed] => print_distances(seed.parse()?, output),
+        ["glitches", seed] => print_glitches(seed.parse()?, output),
         ["annex-c"] => Ok(print_comparison(output)?),
         _ => Err(USAGE.into()),
     }
