@@ -3,13 +3,12 @@ use mathlib.Core.Path.{_≡_, sym, _∙_}
 use mathlib.Core.Bool.{true}
 use mathlib.Core.List.{List, [], _∷_}
 use Prim.Native.Nat.{ℕ, _-_, _<_}
-use native.Mathlib.Decide.{ℕ-discrete}
 use native.Mathlib.Omega.{arith}
-use borrow.Author.Tests.{ne-eqb}
 use lib.ListN.{length}
 use Rattle.algebra.proofs.Lists.{length-tabulate}
 use Rattle.refusals.specs.Numbers.{noRefusal}
 use Rattle.refusals.specs.Answers.{firstFault}
+use Rattle.refusals.proofs.Answers.{unlessRefused-related}
 use Rattle.rows.specs.Orders.{orderCount}
 use Rattle.rows.specs.Setups.{isSetup}
 use Rattle.rows.specs.declared.Row.{Row}
@@ -27,7 +26,7 @@ use Rattle.exported_answers.specs.OwnChecks.{wordCountCheck}
 use Rattle.exported_answers.proofs.Handed.{own-first-none}
 use Rattle.exported_windows.specs.Kinds.{kindWith, kindCheck}
 use Rattle.exported_windows.specs.GroupCalls.{groupCallRefusal, groupCallExit, rowCallRefusal, rowCallExit}
-use Rattle.record_words.specs.Words.{recordWords, recordOf}
+use Rattle.record_words.specs.Words.{recordWords, wordsOf, recordOf}
 use Rattle.record_words.proofs.Words.{smoothed-word}
 use Rattle.exported_records.specs.RecordCalls.{lentRow, addRowCallRefusal, addRowCallExit}
 use Rattle.exported_accuracy.specs.Claim.{smoothedWord}
@@ -71,7 +70,7 @@ module _ (number : ℕ) (setup : Setup) (lines before : List ℕ) (passed : rowC
   unfolding rowCallExit groupValues
   row-count = rw passed (length-tabulate orderCount _)
 
--- where the row is added, the smoothed values that are left are those of the record with it; where it is refused, the words stay
+-- a row that is added, and the smoothed values in the words of the record with it
 module _ (words : List ℕ) (setup : Setup) (values : List ℕ) where
   abbrev row : Row
   row = lentRow setup values
@@ -82,18 +81,12 @@ module _ (words : List ℕ) (setup : Setup) (values : List ℕ) where
       let own = firstFault (wordCountCheck recordWords words ∷ wordCountCheck orderCount values ∷ []) in
       addRowAnswer-accepted (recordOf words) row (own-first-none own (addRowRefusal (recordOf words) row) added)
 
-  pub smoothed-added :
-      addRowCallRefusal words setup values ≡ noRefusal →
-      EveryOrder (λ order. smoothedWord (addRowCallExit words setup values) order ≡ smoothedIn (withRow (recordOf words) row) order)
-  unfolding addRowCallExit withRow
-  smoothed-added added order positive le =
-      rw added
-      (smoothed-word (withRow (recordOf words) row) (order - 1)
-      (omega (arith, length-tabulate orderCount (λ i. nextBook (recordOf words) row i .smoothed))))
-
-  words-kept : (addRowCallRefusal words setup values ≡ noRefusal → ⊥) → addRowCallExit words setup values ≡ words
-  unfolding addRowCallExit
-  words-kept refused = rw (ne-eqb (addRowCallRefusal words setup values) noRefusal refused)
+  pub smoothed-words :
+      EveryOrder (λ order. smoothedWord (wordsOf (withRow (recordOf words) row)) order ≡ smoothedIn (withRow (recordOf words) row) order)
+  unfolding withRow
+  smoothed-words order positive le =
+      smoothed-word (withRow (recordOf words) row) (order - 1)
+      (omega (arith, length-tabulate orderCount (λ i. nextBook (recordOf words) row i .smoothed)))
 
 module _
     (one other : AcceptedWindow) (place number : ℕ) (setup : Setup) (before words : List ℕ)
@@ -130,30 +123,25 @@ module _
         )
 
     called-smoothed-apart : CalledSmoothedApart words setup oneRow otherRow (smoothedShift d)
+    unfolding addRowCallExit
     called-smoothed-apart = record {
       same-refusal = same-refusals;
-      values = λ order positive le. by-refusal order positive le (ℕ-discrete (addRowCallRefusal words setup oneRow) noRefusal);
+      values = λ order positive le.
+          unlessRefused-related (λ after also-after. Apart (smoothedShift d) (smoothedWord after order) (smoothedWord also-after order))
+          (addRowCallRefusal words setup oneRow) (addRowCallRefusal words setup otherRow) _ _ words
+          same-refusals
+          (λ added.
+          rw (
+            smoothed-words words setup oneRow order positive le,
+            smoothed-words words setup otherRow order positive le,
+            ← record-added words setup oneRow added,
+            ← record-added words setup otherRow (sym same-refusals ∙ added),
+            ← row-left number setup (linesLeft one) before first,
+            ← row-left number setup (linesLeft other) before second,
+          )
+          (moved .values order positive le))
+          (record { one-le = omega arith; other-le = omega arith });
     }
-      where
-        by-refusal : EveryOrder (λ order.
-            Dec (addRowCallRefusal words setup oneRow ≡ noRefusal) →
-            Apart (smoothedShift d)
-            (smoothedWord (addRowCallExit words setup oneRow) order)
-            (smoothedWord (addRowCallExit words setup otherRow) order))
-        by-refusal order positive le (yes added) =
-            let also-added = sym same-refusals ∙ added in
-            rw (
-              smoothed-added words setup oneRow added order positive le,
-              smoothed-added words setup otherRow also-added order positive le,
-              ← record-added words setup oneRow added,
-              ← record-added words setup otherRow also-added,
-              ← row-left number setup (linesLeft one) before first,
-              ← row-left number setup (linesLeft other) before second,
-            )
-            (moved .values order positive le)
-        by-refusal order positive le (no refused) =
-            rw (words-kept words setup oneRow refused, words-kept words setup otherRow (λ e. refused (same-refusals ∙ e)))
-            (record { one-le = omega arith; other-le = omega arith })
 
 pub exported-glitch : ExportedGlitchHolds
 exported-glitch = record { groups = called-groups-bounded; smoothed = called-smoothed-apart }

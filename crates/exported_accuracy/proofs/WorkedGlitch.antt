@@ -33,7 +33,7 @@ use Rattle.record_words.specs.Words.{ofParts, recordOf}
 use Rattle.exported_records.specs.RecordCalls.{addRowCallRefusal, addRowCallExit}
 use Rattle.exported_accuracy.specs.Claim.{smoothedWord}
 use Rattle.exported_accuracy.specs.Glitch.{CalledSmoothedApart}
-use Rattle.exported_accuracy.proofs.ExportedGlitch.{row-count, row-left, smoothed-added, exported-glitch}
+use Rattle.exported_accuracy.proofs.ExportedGlitch.{row-count, row-left, smoothed-words, exported-glitch}
 
 -- kifsang_group_value is not refused, and leaves 9797 of the pulse and 0 of no signal, whatever was there before
 group-not-refused : (w : Two) → groupCallRefusal 1 at12 1 (linesLeft (window w)) ≡ noRefusal
@@ -79,10 +79,13 @@ row-added w = rw (row-count 1 at12 (linesLeft (window w)) rowWords (row-not-refu
 
 -- it leaves 1223 after the pulse and 0 after no signal
 word-left : (w : Two) → smoothedWord (addRowCallExit recordHeld at12 (rowLeft w)) 1 ≡ smoothedValue (groupOf w) 0
-unfolding kindWith kinds isSetup isSystem isEdition recordOf ofParts partsFrom wordsFrom tabulate
+unfolding addRowCallExit kindWith kinds isSetup isSystem isEdition recordOf ofParts partsFrom wordsFrom tabulate
 word-left w =
-    smoothed-added recordHeld at12 (rowLeft w) (row-added w) 1 (omega arith) (omega arith)
-    ∙ rw (← row-left 1 at12 (linesLeft (window w)) rowWords (row-not-refused w))
+    rw (
+      row-added w,
+      smoothed-words recordHeld at12 (rowLeft w) 1 (omega arith) (omega arith),
+      ← row-left 1 at12 (linesLeft (window w)) rowWords (row-not-refused w),
+    )
     (smoothed-after (recordOf recordHeld) (rowOf HarmonicGroup at12 (window w) .row) (lit< tt) 1 (omega arith) (omega arith)
     ∙ rw (row-value HarmonicGroup at12 refl (window w) 1 (omega arith) (omega arith)))
 

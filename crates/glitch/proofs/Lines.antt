@@ -97,9 +97,9 @@ module _ (place : ℕ) (one other : List ℤ) (alike : AlikeBut place one other)
   pub lineMove-le : (k : ℕ) → largestTotal * lineMove k ≤ normMost d * normMost d
   unfolding square
   lineMove-le k =
-      let moves = squares-le sumScale largestRadius (lit< tt) (lit≤ tt) (lit≤ tt) _ _ _ _ d in
       omega (
         arith,
-        moves (roundedSum-apart tableCosine k) (roundedSum-apart tableSine k) (table-circle (place * k)),
+        squares-le sumScale largestRadius (lit< tt) (lit≤ tt) (lit≤ tt) _ _ _ _ d
+            (roundedSum-apart tableCosine k) (roundedSum-apart tableSine k) (table-circle (place * k)),
         normMost-enough d,
       )

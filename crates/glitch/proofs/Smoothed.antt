@@ -3,12 +3,11 @@
 use mathlib.Core.Path.{_≡_, refl, sym, ap, _∙_}
 use mathlib.Core.Bool.{true}
 use Prim.Native.Nat.{ℕ, _+_, _*_, _-_, _≤_, _<_}
-use native.Mathlib.Decide.{ℕ-discrete}
 use native.Mathlib.Omega.{arith}
 use borrow.Author.Tests.{ne-eqb}
 use Rattle.algebra.proofs.Rounding.{nearest-le-add, roundedUp-enough}
 use Rattle.refusals.specs.Numbers.{noRefusal}
-use Rattle.refusals.proofs.Answers.{unlessRefused-accepted}
+use Rattle.refusals.proofs.Answers.{unlessRefused-accepted, unlessRefused-related}
 use Rattle.rows.specs.Orders.{isOrder}
 use Rattle.rows.specs.Setups.{isSetup}
 use Rattle.rows.specs.declared.Row.{Row}
@@ -21,7 +20,6 @@ use Rattle.observation.specs.Book.{Book, bookStep, smoothedNext}
 use Rattle.observation.specs.BookCalls.{valueAt}
 use Rattle.observation.specs.Smoothing.{newWeight, oldWeight, smoothedValue, reported}
 use Rattle.observation.specs.Calls.{bookAt, nextBook, withRow, addRowRefusal, addRowAnswer}
-use Rattle.observation.proofs.SoundRecord.{addRowAnswer-accepted}
 use Rattle.observation.proofs.RecordBooks.{book-at-with-row}
 use Rattle.accuracy.specs.Distance.{EveryOrder}
 use Rattle.glitch.specs.Windows.{AcceptedWindow, samplesOf, linesLeft, glitchSize}
@@ -58,25 +56,16 @@ module _
     (enough : newWeight * most ≤ bound * (newWeight + oldWeight))
     (apart : EveryOrder (λ order. Apart most (valueAt (order - 1) one) (valueAt (order - 1) other)))
   where
-    by-refusal : EveryOrder (λ order.
-        Dec (addRowRefusal o one ≡ noRefusal) →
-        Apart bound (smoothedIn (addRowAnswer o one .observation) order) (smoothedIn (addRowAnswer o other .observation) order))
-    unfolding addRowAnswer
-    by-refusal order positive le (yes taken) =
-        rw (
-          addRowAnswer-accepted o one taken,
-          addRowAnswer-accepted o other (sym (same-refusal o one other same) ∙ taken),
-          smoothed-after o one held order positive le,
-          smoothed-after o other held order positive le,
-        )
-        (smoothed-apart most bound _ _ (smoothedIn o order) enough (apart order positive le))
-    by-refusal order positive le (no refused) =
-        rw (← same-refusal o one other same, ne-eqb (addRowRefusal o one) noRefusal refused)
-        (record { one-le = omega arith; other-le = omega arith })
-
     rows-smoothed : EveryOrder (λ order.
         Apart bound (smoothedIn (addRowAnswer o one .observation) order) (smoothedIn (addRowAnswer o other .observation) order))
-    rows-smoothed order positive le = by-refusal order positive le (ℕ-discrete (addRowRefusal o one) noRefusal)
+    unfolding addRowAnswer
+    rows-smoothed order positive le =
+        unlessRefused-related (λ after also-after. Apart bound (smoothedIn after order) (smoothedIn also-after order))
+        (addRowRefusal o one) (addRowRefusal o other) (withRow o one) (withRow o other) o
+        (same-refusal o one other same)
+        (λ taken. rw (smoothed-after o one held order positive le, smoothed-after o other held order positive le)
+        (smoothed-apart most bound _ _ (smoothedIn o order) enough (apart order positive le)))
+        (record { one-le = omega arith; other-le = omega arith })
 
 -- ---- the rows of accepted windows
 

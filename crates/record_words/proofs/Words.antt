@@ -112,26 +112,27 @@ read-same :
 unfolding recordRead recordOf ofParts partsFrom
 read-same words system edition windows = rw (system, edition, windows)
 
--- so it is where one of the two is sound
-read-sound : (words : List ℕ) → isSound (recordRead words) ≡ true → recordRead words ≡ recordOf words
-unfolding recordRead ofParts partsFrom
-read-sound words sound =
-    let parts = sound-parts (recordRead words) sound in
+-- so it is where one of the two is sound, each of which has the words in a way that keeps the small ones
+sound-same :
+    (counted : ℕ → ℕ) → ((word : ℕ) → counted word < largestValue → min word largestValue ≡ word) → (words : List ℕ) →
+    isSound (ofParts counted (partsFrom 0 recordParts words)) ≡ true →
+    recordRead words ≡ recordOf words
+unfolding ofParts partsFrom
+sound-same counted keeps words sound =
+    let parts = sound-parts (ofParts counted (partsFrom 0 recordParts words)) sound in
     let known = setup-parts _ (parts .setup-known) in
     read-same words
-    (omega (arith, system-bounds _ (known .system-known) .most))
-    (omega (arith, edition-le _ (known .edition-known)))
-    (omega (arith, parts .windows-le))
+    (keeps _ (omega (arith, system-bounds _ (known .system-known) .most)))
+    (keeps _ (omega (arith, edition-le _ (known .edition-known))))
+    (keeps _ (omega (arith, parts .windows-le)))
+
+read-sound : (words : List ℕ) → isSound (recordRead words) ≡ true → recordRead words ≡ recordOf words
+unfolding recordRead
+read-sound = sound-same (λ word. min word largestValue) (λ word small. omega arith)
 
 held-sound : (words : List ℕ) → isSound (recordOf words) ≡ true → recordRead words ≡ recordOf words
-unfolding recordOf ofParts partsFrom
-held-sound words sound =
-    let parts = sound-parts (recordOf words) sound in
-    let known = setup-parts _ (parts .setup-known) in
-    read-same words
-    (omega (arith, system-bounds _ (known .system-known) .most))
-    (omega (arith, edition-le _ (known .edition-known)))
-    (omega (arith, parts .windows-le))
+unfolding recordOf
+held-sound = sound-same (λ word. word) (λ word small. omega arith)
 
 -- what depends on a record only where it is sound is the same of both
 pub recordRead-same :

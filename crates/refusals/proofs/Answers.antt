@@ -82,6 +82,17 @@ unlessRefused-same refusal a b unchanged same = by-test (eqb refusal noRefusal) 
     by-test true e = same (eqb-true refusal noRefusal e)
     by-test false e = refl
 
+-- two calls on the same thing that are refused alike: a relation of their results on success, and of the thing with itself, is one of what stands after them
+pub unlessRefused-related {ℓ} :
+    {A : Type ℓ} (R : A → A → Type 0) (refusal other : ℕ) (a b unchanged : A) → refusal ≡ other →
+    (refusal ≡ noRefusal → R a b) → R unchanged unchanged →
+    R (unlessRefused refusal a unchanged) (unlessRefused other b unchanged)
+unlessRefused-related R refusal other a b unchanged same worked kept = rw (← same) (by-test (eqb refusal noRefusal) refl)
+  where
+    by-test : (accepted : Bool) → eqb refusal noRefusal ≡ accepted → R (cond accepted a unchanged) (cond accepted b unchanged)
+    by-test true e = worked (eqb-true refusal noRefusal e)
+    by-test false e = kept
+
 -- two checks with the numbers 1 and 2
 abbrev checks : Bool → Bool → List (Bool × ℕ)
 checks first second = (first, 1) ∷ (second, 2) ∷ []
