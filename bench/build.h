@@ -1,8 +1,9 @@
 /* The calls of one build of the core, as calls.c times them: included for the core and, with -DBEFORE, once
- * more for the build before a change. It is told by five macros which build it speaks of. SIDE(name) is a
+ * more for the build before a change. It is told by six macros which build it speaks of. SIDE(name) is a
  * name of this program, CALL(name) a call of the build, NUMBER(name) a constant of its header; EDITION is
  * edition 2 and a comma, or nothing for a build whose calls take no edition; HAS_LATEST is 1 for a build whose
- * records keep the latest rows, and 0 for one that has no three-second value. */
+ * records keep the latest rows, and 0 for one that has no three-second value; HAS_PANEL is 1 for a build that
+ * has the panel's row, and 0 for one that has not. */
 
 static uint64_t SIDE(part)[PART];
 static uint32_t SIDE(values)[ORDERS], SIDE(verdict_number);
@@ -25,6 +26,16 @@ static void SIDE(row)(void)
 {
     CALL(row)(KIFSANG_HARMONIC_GROUP, SYSTEM, EDITION lines, LINES, SIDE(values), ORDERS);
 }
+
+#if HAS_PANEL
+static struct panel SIDE(panel);
+
+static void SIDE(panel_row)(void)
+{
+    CALL(panel_row)(recording, SAMPLES, 0, asked_system, EDITION SIDE(panel).lines, NUMBER(PANEL_LINES),
+                    SIDE(panel).values, ORDERS);
+}
+#endif
 
 static void SIDE(distortion)(void)
 {
@@ -87,6 +98,9 @@ static const struct side SIDE(sides)[CALLS] = {
     [LINE] = {SIDE(line), SIDE(part), sizeof SIDE(part)[0]},
     [PART_OF_LINES] = {SIDE(lines), SIDE(part), sizeof SIDE(part)},
     [ROW] = {SIDE(row), SIDE(values), sizeof SIDE(values)},
+#if HAS_PANEL
+    [PANEL_ROW] = {SIDE(panel_row), &SIDE(panel), sizeof SIDE(panel)},
+#endif
     [DISTORTION] = {SIDE(distortion), SIDE(numbers), sizeof SIDE(numbers)[0]},
     [FRESH_RECORD] = {SIDE(fresh_record), FROM(SIDE(record), NUMBER(WINDOWS_PLACE))},
     [ADD_ROW] = {SIDE(add_row), FROM(SIDE(record), NUMBER(WINDOWS_PLACE))},
@@ -105,3 +119,4 @@ static const struct side SIDE(sides)[CALLS] = {
 #undef NUMBER
 #undef EDITION
 #undef HAS_LATEST
+#undef HAS_PANEL

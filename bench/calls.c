@@ -2,7 +2,9 @@
  * edition 2; lines in C are direct sums in one loop. Results are compared before anything is timed. Printed:
  * the minimum time of a call on each side, and the ratio. With -DBEFORE the calls are also timed in the build
  * before a change, declared in before_kifsang.h. The spectrum has a benchmark of its own (spectrum.c). The
- * record after 50 windows is worked out by kifsang_observe and, beside it, by the calls one by one. */
+ * record after 50 windows is worked out by kifsang_observe and, beside it, by the calls one by one. The panel's
+ * row is timed in both systems, also next to the core's spectrum and row, which give the same with more memory;
+ * in C it has the panel's 13 lines too, by direct sums. */
 #define _POSIX_C_SOURCE 199309L
 #include "kifsang.h"
 #include "measure.h"
@@ -20,17 +22,24 @@
 static int32_t recording[WINDOWS * SAMPLES];
 static uint64_t lines[LINES];
 static volatile uint8_t asked_letter; /* of the class in which limits and verdicts are asked */
+static volatile uint8_t asked_system; /* in which the panel's row is asked */
 
 /* What is timed, and of each side the function that makes the call, and what the call leaves. A build of
  * before may have no such call, and no function then. */
 enum {
-    LINE, PART_OF_LINES, ROW, DISTORTION, FRESH_RECORD, ADD_ROW, OBSERVE, ONE_BY_ONE, LIMIT, VERDICT,
+    LINE, PART_OF_LINES, ROW, PANEL_ROW, DISTORTION, FRESH_RECORD, ADD_ROW, OBSERVE, ONE_BY_ONE, LIMIT, VERDICT,
     THREE_SECOND_VALUE, FILL_LISTING, CALLS
 };
 struct side {
     void (*call)(void);
     const void *left;
     size_t size; /* bytes that are left */
+};
+
+/* What the panel's row leaves: the row, and zeros in the lines. */
+struct panel {
+    uint32_t values[ORDERS];
+    uint64_t lines[KIFSANG_PANEL_LINES];
 };
 
 /* Of a record the words from the count of windows on are compared, as many as both sides have: before them a
@@ -44,7 +53,22 @@ struct side {
 #define NUMBER(name) KIFSANG_##name
 #define EDITION KIFSANG_EDITION_2,
 #define HAS_LATEST 1
+#define HAS_PANEL 1
 #include "build.h"
+
+/* The panel's row by the core's spectrum and row. */
+static uint32_t two_calls_values[ORDERS];
+
+static void two_calls_panel_row(void)
+{
+    static uint64_t from[LINES];
+    kifsang_spectrum(recording, SAMPLES, 0, from, LINES);
+    kifsang_row(KIFSANG_HARMONIC_GROUP, asked_system, KIFSANG_EDITION_2, from, LINES, two_calls_values, ORDERS);
+}
+
+static const struct side two_calls_sides[CALLS] = {
+    [PANEL_ROW] = {two_calls_panel_row, two_calls_values, sizeof two_calls_values},
+};
 
 #ifdef BEFORE
 #include "before_kifsang.h"
@@ -60,6 +84,11 @@ struct side {
 #define HAS_LATEST 1
 #else
 #define HAS_LATEST 0
+#endif
+#ifdef BEFORE_KIFSANG_PANEL_LINES
+#define HAS_PANEL 1
+#else
+#define HAS_PANEL 0
 #endif
 #include "build.h"
 #endif
@@ -77,17 +106,24 @@ enum {
 };
 
 static uint64_t c_part[PART], c_numbers[2];
+static struct panel c_panel;
 static uint32_t c_values[ORDERS], c_verdict_number;
 static uint64_t c_record[KIFSANG_RECORD_WORDS], c_observed[KIFSANG_RECORD_WORDS];
 static unsigned char c_text[KIFSANG_LISTING_ROOM];
 static uint16_t c_limits[2][39][2]; /* class A's and class B's */
 
-static void c_lines_from(size_t count)
+static int c_in_range(const int32_t *window)
 {
     for (int j = 0; j < SAMPLES; j++)
-        if (recording[j] > 131071 || recording[j] < -131071)
-            return;
-    one_loop(recording, FIRST, c_part, count);
+        if (window[j] > 131071 || window[j] < -131071)
+            return 0;
+    return 1;
+}
+
+static void c_lines_from(size_t count)
+{
+    if (c_in_range(recording))
+        one_loop(recording, FIRST, c_part, count);
 }
 
 static void c_group_row(const uint64_t *from, uint32_t *row)
@@ -97,6 +133,21 @@ static void c_group_row(const uint64_t *from, uint32_t *row)
             return;
     for (int h = 1; h <= ORDERS; h++)
         row[h - 1] = harmonic_group(from, SYSTEM, h);
+}
+
+/* The groups one after the other, over system + 1 lines. Two neighbours share the line between them, so after the
+ * first line each group has system new ones: in all 401 lines in system 10, 481 in system 12. */
+static void c_fill_panel(const int32_t *window, int system, struct panel *panel)
+{
+    if (!c_in_range(window))
+        return;
+    one_loop(window, (size_t)(system / 2), panel->lines + system, 1);
+    for (int h = 1; h <= ORDERS; h++) {
+        panel->lines[0] = panel->lines[system];
+        one_loop(window, (size_t)(system * h - system / 2 + 1), panel->lines + 1, (size_t)system);
+        panel->values[h - 1] = group_over(panel->lines, system);
+    }
+    memset(panel->lines, 0, sizeof panel->lines);
 }
 
 static uint64_t c_largest_ratio(const uint32_t *row)
@@ -222,6 +273,7 @@ static uint32_t c_three_seconds(const uint64_t *record, uint32_t order, uint64_t
 static void c_line(void) { c_lines_from(1); }
 static void c_lines(void) { c_lines_from(PART); }
 static void c_row(void) { c_group_row(lines, c_values); }
+static void c_panel_row(void) { c_fill_panel(recording, asked_system, &c_panel); }
 static void c_distortion(void) { c_numbers[0] = c_largest_ratio(c_values); }
 static void c_fresh_record(void) { c_begin(c_record); }
 static void c_add_row(void) { c_add(c_record, c_values); }
@@ -258,6 +310,7 @@ static const struct side c_sides[CALLS] = {
     [LINE] = {c_line, c_part, sizeof c_part[0]},
     [PART_OF_LINES] = {c_lines, c_part, sizeof c_part},
     [ROW] = {c_row, c_values, sizeof c_values},
+    [PANEL_ROW] = {c_panel_row, &c_panel, sizeof c_panel},
     [DISTORTION] = {c_distortion, c_numbers, sizeof c_numbers[0]},
     [FRESH_RECORD] = {c_fresh_record, FROM(c_record, N)},
     [ADD_ROW] = {c_add_row, FROM(c_record, N)},
@@ -271,10 +324,11 @@ static const struct side c_sides[CALLS] = {
 
 /* ---- comparing and timing */
 
-enum { CORE, PLAIN, OTHER_BUILD, SIDES };
+enum { CORE, PLAIN, TWO_CALLS, OTHER_BUILD, SIDES };
 static const struct side *const sides[SIDES] = {
     [CORE] = core_sides,
     [PLAIN] = c_sides,
+    [TWO_CALLS] = two_calls_sides,
 #ifdef BEFORE
     [OTHER_BUILD] = before_sides,
 #endif
@@ -285,23 +339,31 @@ static const struct work {
     const char *name;
     int call;
     int calls; /* in a batch */
-    uint8_t letter;
+    uint8_t letter, system; /* 0 where none is asked */
 } works[] = {
-    {"lines_from, one line", LINE, 400, 0},
-    {"lines_from, 13 lines", PART_OF_LINES, 100, 0},
-    {"row", ROW, 400, 0},
-    {"distortion", DISTORTION, 400, 0},
-    {"fresh_record", FRESH_RECORD, 400, 0},
-    {"add_row", ADD_ROW, 400, 0},
-    {"observe, 50 windows", OBSERVE, 1, 0},
-    {"one by one, 50 windows", ONE_BY_ONE, 1, 0},
-    {"limit, class A", LIMIT, 400, 'A'},
-    {"limit, class B", LIMIT, 400, 'B'},
-    {"verdict, class A", VERDICT, 400, 'A'},
-    {"verdict, class B", VERDICT, 400, 'B'},
-    {"three_second_value", THREE_SECOND_VALUE, 400, 0},
-    {"fill_listing", FILL_LISTING, 400, 0},
+    {"lines_from, one line", LINE, 400, 0, 0},
+    {"lines_from, 13 lines", PART_OF_LINES, 100, 0, 0},
+    {"row", ROW, 400, 0, 0},
+    {"panel_row, system 10", PANEL_ROW, 1, 0, 10},
+    {"panel_row, system 12", PANEL_ROW, 1, 0, 12},
+    {"distortion", DISTORTION, 400, 0, 0},
+    {"fresh_record", FRESH_RECORD, 400, 0, 0},
+    {"add_row", ADD_ROW, 400, 0, 0},
+    {"observe, 50 windows", OBSERVE, 1, 0, 0},
+    {"one by one, 50 windows", ONE_BY_ONE, 1, 0, 0},
+    {"limit, class A", LIMIT, 400, 'A', 0},
+    {"limit, class B", LIMIT, 400, 'B', 0},
+    {"verdict, class A", VERDICT, 400, 'A', 0},
+    {"verdict, class B", VERDICT, 400, 'B', 0},
+    {"three_second_value", THREE_SECOND_VALUE, 400, 0, 0},
+    {"fill_listing", FILL_LISTING, 400, 0, 0},
 };
+
+static void ask(const struct work *work)
+{
+    asked_letter = work->letter;
+    asked_system = work->system;
+}
 
 /* A side's function for a call and what it leaves, or none. */
 static const struct side *side_of(int s, int call)
@@ -321,7 +383,7 @@ static void same(const char *name, const void *one, const void *other, size_t si
 static void compare(const struct work *work)
 {
     const struct side *plain = &c_sides[work->call];
-    asked_letter = work->letter;
+    ask(work);
     for (int s = 0; s < SIDES; s++)
         for (int i = 0; side_of(s, work->call) != NULL && i < 3; i++)
             sides[s][work->call].call();
@@ -341,6 +403,31 @@ static void compare_limits(void)
             plain[0] = c_find_limit(order, letter, &plain[1], &plain[2]);
             same("limit", core, plain, sizeof core);
         }
+}
+
+/* Each window of the recording in both systems, by the core's call, by its spectrum and row, and in C. One line
+ * of each buffer is not 0 before, and all of them must be alike after. */
+static void compare_panels(void)
+{
+    static uint64_t from[LINES];
+    static struct panel core, plain;
+    uint32_t values[ORDERS];
+    for (int i = 0; i < 2 * WINDOWS; i++) {
+        const int32_t *window = recording + i / 2 * SAMPLES;
+        uint32_t system = i % 2 == 0 ? 10 : 12;
+        core.lines[i % KIFSANG_PANEL_LINES] = plain.lines[i % KIFSANG_PANEL_LINES] = UINT64_MAX;
+        uint32_t refusal = kifsang_panel_row(window, SAMPLES, 0, system, KIFSANG_EDITION_2, core.lines,
+                                             KIFSANG_PANEL_LINES, core.values, ORDERS);
+        if (refusal != KIFSANG_NO_REFUSAL) {
+            printf("panel_row refused, number %u\n", (unsigned)refusal);
+            exit(1);
+        }
+        c_fill_panel(window, (int)system, &plain);
+        same("panel_row", &core, &plain, sizeof core);
+        kifsang_spectrum(window, SAMPLES, 0, from, LINES);
+        kifsang_row(KIFSANG_HARMONIC_GROUP, system, KIFSANG_EDITION_2, from, LINES, values, ORDERS);
+        same("panel_row, and spectrum and row", core.values, values, sizeof values);
+    }
 }
 
 /* After each of some rows of any values all orders are asked, and two that are none. */
@@ -368,7 +455,7 @@ static void compare_three_seconds(void)
 /* Times batches of calls, each side in turn, and puts them in the order of size. A side may be missing. */
 static void fill_times(const struct work *work)
 {
-    asked_letter = work->letter;
+    ask(work);
     for (int batch = 0; batch < BATCHES; batch++)
         for (int s = 0; s < SIDES; s++)
             if (side_of(s, work->call) != NULL)
@@ -389,12 +476,16 @@ int main(void)
     for (size_t i = 0; i < count; i++)
         compare(&works[i]);
     compare_limits();
+    compare_panels();
     compare_three_seconds();
     puts("all results agree");
     for (size_t i = 0; i < count; i++) {
         fill_times(&works[i]);
         printf("%-22s core %9.3f us, C %9.3f us, ratio %5.2f", works[i].name, 1e6 * times[CORE][0],
                1e6 * times[PLAIN][0], times[CORE][0] / times[PLAIN][0]);
+        if (side_of(TWO_CALLS, works[i].call) != NULL)
+            printf("; spectrum and row %9.3f us, ratio %5.2f", 1e6 * times[TWO_CALLS][0],
+                   times[CORE][0] / times[TWO_CALLS][0]);
         if (side_of(OTHER_BUILD, works[i].call) != NULL)
             printf("; before %9.3f us, ratio of the minima %.3f, of the medians %.3f", 1e6 * times[OTHER_BUILD][0],
                    times[CORE][0] / times[OTHER_BUILD][0],

@@ -16,14 +16,19 @@ static inline uint32_t whole_root(uint64_t n)
     return (uint32_t)r;
 }
 
-/* The harmonic group of an order: the lines at its edges by half. */
-static inline uint32_t harmonic_group(const uint64_t *lines, int system, int order)
+/* The harmonic group whose lines are these, system + 1 of them: those at its edges by half. */
+static inline uint32_t group_over(const uint64_t *lines, int system)
 {
-    int centre = system * order, half = system / 2;
-    uint64_t sum = lines[centre - half] + lines[centre + half];
-    for (int k = centre - half + 1; k < centre + half; k++)
+    uint64_t sum = lines[0] + lines[system];
+    for (int k = 1; k < system; k++)
         sum += 2 * lines[k];
     return whole_root(sum);
+}
+
+/* The harmonic group of an order, of lines from line 0 on. */
+static inline uint32_t harmonic_group(const uint64_t *lines, int system, int order)
+{
+    return group_over(lines + (system * order - system / 2), system);
 }
 
 #endif

@@ -13,7 +13,8 @@ static unsigned char stack[STACK] __attribute__((aligned(4096)));
 static int32_t window[KIFSANG_WINDOW_LENGTH];
 static uint64_t lines[KIFSANG_LINE_COUNT], record[KIFSANG_RECORD_WORDS], number, other_number;
 static uint64_t record_of_15[KIFSANG_RECORD_WORDS]; /* windows, as a three-second value wants them */
-static uint32_t row[KIFSANG_ORDER_COUNT], verdict;
+static uint64_t panel_lines[KIFSANG_PANEL_LINES];
+static uint32_t row[KIFSANG_ORDER_COUNT], panel[KIFSANG_ORDER_COUNT], verdict;
 static unsigned char text[KIFSANG_LISTING_ROOM];
 static int64_t signed_number;
 
@@ -26,6 +27,11 @@ static void group_value(void)
 static void whole_row(void)
 {
     kifsang_row(1, 10, KIFSANG_EDITION_2, lines, KIFSANG_LINE_COUNT, row, KIFSANG_ORDER_COUNT);
+}
+static void panel_row(void)
+{
+    kifsang_panel_row(window, KIFSANG_WINDOW_LENGTH, 0, 12, KIFSANG_EDITION_2, panel_lines, KIFSANG_PANEL_LINES,
+                      panel, KIFSANG_ORDER_COUNT);
 }
 static void distortion(void) { kifsang_distortion(row, KIFSANG_ORDER_COUNT, &number); }
 static void fresh_record(void) { kifsang_fresh_record(10, KIFSANG_EDITION_2, record, KIFSANG_RECORD_WORDS); }
@@ -84,9 +90,9 @@ int main(void)
         void (*call)(void);
     } calls[] = {
         {"spectrum", spectrum},         {"lines_from", lines_from},     {"group_value", group_value},
-        {"row", whole_row},             {"distortion", distortion},     {"fresh_record", fresh_record},
-        {"add_row", add_row},           {"observe", observe},           {"limit", limit},
-        {"verdict", judge},             {"three_second_value", three_second_value},
+        {"row", whole_row},             {"panel_row", panel_row},       {"distortion", distortion},
+        {"fresh_record", fresh_record}, {"add_row", add_row},           {"observe", observe},
+        {"limit", limit},               {"verdict", judge},             {"three_second_value", three_second_value},
         {"write_column", write_column}, {"read_column", read_column},   {"fill_listing", fill_listing},
     };
     for (int i = 0; i < KIFSANG_WINDOW_LENGTH; i++)

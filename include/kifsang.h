@@ -20,6 +20,10 @@
  *     kifsang_row            the lines of a window        ->  the 40 values of a kind, a row
  *     kifsang_add_row        a record and a row           ->  the record with one window more
  *
+ *     The harmonic groups of a window with 13 lines in place of 512, where there is little memory:
+ *
+ *     kifsang_panel_row      a window of 2,048 samples    ->  the row of its harmonic groups
+ *
  *     The value of an order over the latest 15 windows, as a network reader wants it:
  *
  *     kifsang_three_second_value   a record and an order  ->  its three-second value
@@ -147,6 +151,7 @@ extern "C" {
 #define KIFSANG_WINDOW_LENGTH 2048      /* samples in a window */
 #define KIFSANG_LINE_COUNT 512          /* lines of a spectrum */
 #define KIFSANG_LINE_LIMIT 1024         /* the numbers of lines are below it */
+#define KIFSANG_PANEL_LINES 13          /* lines of the panel's buffer: the most that a group has */
 #define KIFSANG_ORDER_COUNT 40          /* values of a row: the orders 1..40 */
 #define KIFSANG_UNITS_PER_COUNT 4096    /* units in a sample count */
 #define KIFSANG_LARGEST_SAMPLE 131071   /* the largest size of a sample, in counts */
@@ -175,7 +180,7 @@ enum kifsang_refusal {
     KIFSANG_UNKNOWN_SYSTEM = 1,       /* the system is neither 10 nor 12 */
     KIFSANG_SHORT_WINDOW = 2,         /* fewer than 2,048 samples from the start */
     KIFSANG_SAMPLE_OUT_OF_RANGE = 3,  /* a sample of the window is outside -131071..131071 */
-    KIFSANG_WRONG_LINE_COUNT = 4,     /* not 512 lines, or lines past number 1023 */
+    KIFSANG_WRONG_LINE_COUNT = 4,     /* not 512 lines, 13 for the panel's row, or lines past number 1023 */
     KIFSANG_LINE_TOO_LARGE = 5,       /* a line above 2^59 */
     KIFSANG_ORDER_OUT_OF_RANGE = 6,   /* an order outside the orders of the call */
     KIFSANG_UNSOUND_RECORD = 7,       /* words that are not a sound record */
@@ -307,6 +312,36 @@ uint32_t kifsang_row(uint32_t kind, uint32_t system, uint32_t edition, const uin
                      uint64_t line_count, uint32_t *values, uint64_t value_count);
 
 /*
+ * Works out the row of the harmonic groups of a window with 13 lines in place of 512, for a front panel
+ * with little memory: the very row that kifsang_spectrum and then kifsang_row, with kind 1 and the same
+ * system and edition, would leave. It needs a seventh of the stack of kifsang_spectrum (docs/LINKING.md) and
+ * takes several times as long as those two calls (bench/README.md).
+ *
+ *   recording         in    recording_length samples, in counts; only the window is looked at
+ *   recording_length  in    samples of the recording, any
+ *   start             in    the place of the window's first sample, any
+ *   system            in    10 or 12 cycles in the window
+ *   edition           in    0 or 1, an enum kifsang_edition
+ *   lines             out   line_count lines to work in: what they held does not matter, and after an
+ *                           accepted call all of them are 0
+ *   line_count        in    13
+ *   values            out   value_count values, in units
+ *   value_count       in    40
+ *
+ * Refusals: 102 value_count is not 40; 1 system not 10 or 12; 19 edition not 0 or 1; 2 fewer than 2,048
+ *   samples from the start; 4 line_count is not 13; 3 a sample of the window outside -131071..131071. A
+ *   refused call leaves the lines and the values as they were.
+ * Proved error: that of kifsang_group_value, for each order. The row is one of those that
+ *   kifsang_add_row speaks of (exported-demand3).
+ * Definition: panelRefusal, panelAnswer and panelExit, crates/groups/specs/Panel.antt, and
+ *   panelCallRefusal, panelCallLinesExit and panelCallValuesExit,
+ *   crates/exported_windows/specs/PanelCall.antt.
+ */
+uint32_t kifsang_panel_row(const int32_t *recording, uint64_t recording_length, uint64_t start,
+                           uint32_t system, uint32_t edition, uint64_t *lines, uint64_t line_count,
+                           uint32_t *values, uint64_t value_count);
+
+/*
  * Works out the group distortion of a row: the largest whole t with t^2 * value[0]^2 at most 1000000
  * times the sum of the squares of value[1]..value[39].
  *
@@ -356,9 +391,9 @@ uint32_t kifsang_fresh_record(uint32_t system, uint32_t edition, uint64_t *recor
  *   not 10 or 12; 19 edition not 0 or 1; 8 another system or another edition than the record's; 9 the
  *   record holds 45,000 windows. A refused call leaves the record as it was.
  * Proved error: after any calls since a fresh record or an observation, where the rows that were added
- *   come from kifsang_spectrum and kifsang_row, all of one kind and with their own system and edition,
- *   each smoothed value is at most 12 units from the exact one (exported-demand3). What one bad sample of
- *   the row's window can do to it stands above.
+ *   come from kifsang_spectrum and kifsang_row or, for kind 1, from kifsang_panel_row, all of one kind and
+ *   with their own system and edition, each smoothed value is at most 12 units from the exact one
+ *   (exported-demand3). What one bad sample of the row's window can do to it stands above.
  * Definition: addRowCallRefusal and addRowCallExit, crates/exported_records/specs/RecordCalls.antt.
  */
 uint32_t kifsang_add_row(uint64_t *record, uint64_t record_words, uint32_t system, uint32_t edition,
@@ -450,10 +485,11 @@ uint32_t kifsang_verdict(const uint64_t *record, uint64_t record_words, uint32_t
  *   15 windows. A refused call leaves the value as it was.
  * Proved error: none for the rows that were added; after any calls since a fresh record or an observation,
  *   refused ones included, the value is that of the last 15 rows that were accepted. Where these come from
- *   kifsang_observe, or from kifsang_spectrum and kifsang_row, all of one kind and with their own system and
- *   edition, it is at most 8 units from the exact one, whose square is a fifteenth of the sum of the squares
- *   of the 15 windows' exact groups: 15 * (t - 8)^2 <= that sum <= 15 * (t + 8)^2, with 0 for t - 8 where t
- *   is below 8; what was added before them does not matter (exported-demand3).
+ *   kifsang_observe, from kifsang_spectrum and kifsang_row or, for kind 1, from kifsang_panel_row, all of one
+ *   kind and with their own system and edition, it is at most 8 units from the exact one, whose square is a
+ *   fifteenth of the sum of the squares of the 15 windows' exact groups: 15 * (t - 8)^2 <= that sum <=
+ *   15 * (t + 8)^2, with 0 for t - 8 where t is below 8; what was added before them does not matter
+ *   (exported-demand3).
  * Definition: threeSecondOf, crates/three_seconds/specs/ThreeSecond.antt, and threeSecondCallRefusal and
  *   threeSecondCallExit, crates/exported_records/specs/ThreeSecondCall.antt.
  */

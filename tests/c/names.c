@@ -1,7 +1,8 @@
 /* Every name of include/kifsang.h that stands for a number, with its figure; and the kinds, the editions,
- * the places, the windows of a three-second value, the classes, the margin and the peak's per cent by name,
- * on calls whose answers documents 01 and 02 have in figures or give by them. With an argument it prints the
- * names instead, a line for each, so that they can be compared with those of the header. */
+ * the lines of the panel, the places, the windows of a three-second value, the classes, the margin and the
+ * peak's per cent by name, on calls whose answers documents 01 and 02 have in figures or give by them. With an
+ * argument it prints the names instead, a line for each, so that they can be compared with those of the
+ * header. */
 #include "kifsang.h"
 
 #include <inttypes.h>
@@ -20,6 +21,7 @@ static const struct {
     NAME(KIFSANG_WINDOW_LENGTH, 2048),
     NAME(KIFSANG_LINE_COUNT, 512),
     NAME(KIFSANG_LINE_LIMIT, 1024),
+    NAME(KIFSANG_PANEL_LINES, 13),
     NAME(KIFSANG_ORDER_COUNT, 40),
     NAME(KIFSANG_UNITS_PER_COUNT, 4096),
     NAME(KIFSANG_LARGEST_SAMPLE, 131071),
@@ -122,6 +124,24 @@ static void try_kinds(void)
     }
 }
 
+/* The panel's row of the pulse: its harmonic groups, order 1 under A1 its component alone. */
+static void try_panel(uint32_t edition, uint32_t first)
+{
+    static int32_t pulse[KIFSANG_WINDOW_LENGTH] = {1000};
+    uint64_t lines[KIFSANG_PANEL_LINES];
+    uint32_t values[KIFSANG_ORDER_COUNT];
+    for (size_t i = 0; i < COUNT_OF(lines); i++)
+        lines[i] = BEFORE;
+    same("the refusal of a panel's row",
+         kifsang_panel_row(pulse, KIFSANG_WINDOW_LENGTH, 0, 10, edition, lines, KIFSANG_PANEL_LINES, values,
+                           KIFSANG_ORDER_COUNT),
+         0);
+    for (size_t i = 0; i < COUNT_OF(values); i++)
+        same("a value of a panel's row", values[i], i == 0 ? first : 8944);
+    for (size_t i = 0; i < COUNT_OF(lines); i++)
+        same("a line of the panel's buffer", lines[i], 0);
+}
+
 /* The rows of worked number 8, 8944 and then 0, for order 1, under an edition. */
 static void try_places(uint32_t edition)
 {
@@ -219,6 +239,8 @@ int main(int argument_count, char **arguments)
     for (size_t i = 0; i < COUNT_OF(names); i++)
         same(names[i].name, names[i].number, names[i].figure);
     try_kinds();
+    try_panel(KIFSANG_EDITION_2, 8944);
+    try_panel(KIFSANG_EDITION_A1, 2828);
     try_places(KIFSANG_EDITION_2);
     try_places(KIFSANG_EDITION_A1);
     /* The squares of 1..15 have the sum 1240, those of 2..16 1495 and those of 3..17 1780; 15 * 9^2 is 1215,

@@ -172,6 +172,24 @@ static const struct fault row_faults[] = {
     LINES_FAULTS,
 };
 
+static uint32_t panel_row(struct arguments *a)
+{
+    return kifsang_panel_row(a->recording, a->recording_length, a->start, a->system, a->edition, a->lines,
+                             a->line_count, a->values, a->value_count);
+}
+
+static const struct fault panel_row_faults[] = {
+    VALUE_COUNT_FAULTS,
+    SETUP_FAULTS,
+    SHORT_WINDOW_FAULTS,
+    FAULT(4, uint64_t, line_count, 0),
+    FAULT(4, uint64_t, line_count, 11),
+    FAULT(4, uint64_t, line_count, 12),
+    FAULT(4, uint64_t, line_count, 14),
+    FAULT(4, uint64_t, line_count, 512),
+    SAMPLE_FAULTS,
+};
+
 static uint32_t distortion(struct arguments *a)
 {
     return kifsang_distortion(a->values, a->value_count, &a->parts_per_thousand);
@@ -342,6 +360,7 @@ static const struct call calls[] = {
     CALL(lines_from),
     CALL(group_value),
     CALL(row),
+    CALL(panel_row),
     CALL(distortion),
     CALL(fresh_record),
     CALL(add_row),
@@ -381,7 +400,7 @@ static void fill(struct arguments *a, const struct call *call)
     a->recording_length = call->run == observe ? 6144 : 2048;
     a->start = 0;
     a->first = 512;
-    a->line_count = 512;
+    a->line_count = call->run == panel_row ? 13 : 512;
     a->value_count = 40;
     a->record_words = 423;
     a->text_length = 8;
@@ -488,6 +507,25 @@ static void try_none(void)
     }
 }
 
+/* A panel row that is taken leaves zeros in its 13 lines, and writes its 40 values and nothing else. */
+static void try_panel(void)
+{
+    static struct arguments before, after;
+    const struct call call = CALL(panel_row);
+    fill(&before, &call);
+    for (before.edition = 0; before.edition <= 1; before.edition++)
+        for (before.system = 10; before.system <= 12; before.system += 2) {
+            before.lines[0] = before.lines[12] = UINT64_MAX;
+            memcpy(&after, &before, sizeof after);
+            same("panel_row", "no fault", "no refusal", panel_row(&after), 0);
+            for (size_t i = 0; i < 13; i++)
+                same("panel_row", "no fault", "a line of the buffer", after.lines[i], 0);
+            memcpy(after.lines, before.lines, 13 * sizeof after.lines[0]);
+            memcpy(after.values, before.values, 40 * sizeof after.values[0]);
+            same("panel_row", "no fault", "all else is as it was", memcmp(&before, &after, sizeof before) == 0, 1);
+        }
+}
+
 /* Each call and the numbers of its faults in order. */
 static void list(void)
 {
@@ -516,6 +554,7 @@ int main(int argument_count, char **arguments)
         if (calls[i].run == limit || calls[i].run == verdict)
             try_letters(&calls[i]);
     try_none();
+    try_panel();
     try_class(65, 2300000);
     try_class(66, 3450000);
     printf("%lu comparisons of refusals in C, all alike\n", tried);

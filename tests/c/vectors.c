@@ -110,6 +110,46 @@ static void on_row(void)
     }
 }
 
+/* The panel's row by the calls one by one: the spectrum, and the row of the harmonic groups. */
+static uint32_t panel_chain(uint64_t start, uint32_t system, uint32_t edition, uint32_t row[KIFSANG_ORDER_COUNT])
+{
+    uint64_t spectrum[KIFSANG_LINE_COUNT];
+    uint32_t refusal = kifsang_spectrum(recording, recording_length, start, spectrum, KIFSANG_LINE_COUNT);
+    if (refusal == KIFSANG_NO_REFUSAL)
+        refusal = kifsang_row(KIFSANG_HARMONIC_GROUP, system, edition, spectrum, KIFSANG_LINE_COUNT, row,
+                              KIFSANG_ORDER_COUNT);
+    return refusal;
+}
+
+/* A word stands before and one after what is lent, both of the lines and of the values. */
+static void on_panel_row(void)
+{
+    static uint64_t panel[MOST_NUMBERS];
+    uint32_t row[KIFSANG_ORDER_COUNT + 2], chained[KIFSANG_ORDER_COUNT];
+    uint32_t system = (uint32_t)number[1], edition = (uint32_t)number[2];
+    size_t panel_count = (size_t)number[3];
+    const uint64_t *values = number + 5, *panel_after = values + KIFSANG_ORDER_COUNT;
+    for (size_t i = 0; i < panel_count + 2; i++)
+        panel[i] = BEFORE;
+    for (size_t i = 0; i < KIFSANG_ORDER_COUNT + 2; i++)
+        row[i] = BEFORE;
+    uint32_t refusal = kifsang_panel_row(recording, recording_length, number[0], system, edition, panel + 1,
+                                         panel_count, row + 1, KIFSANG_ORDER_COUNT);
+    int accepted = refusal == KIFSANG_NO_REFUSAL;
+    same("panel row", refusal, number[4]);
+    same("count of a panel row's numbers", count, accepted ? 5 + KIFSANG_ORDER_COUNT + KIFSANG_PANEL_LINES : 5);
+    for (size_t i = 0; i < KIFSANG_ORDER_COUNT + 2; i++)
+        same("value of a panel row", row[i],
+             accepted && i >= 1 && i <= KIFSANG_ORDER_COUNT ? values[i - 1] : BEFORE);
+    for (size_t i = 0; i < panel_count + 2; i++)
+        same("line of a panel", panel[i], accepted && i >= 1 && i <= panel_count ? panel_after[i - 1] : BEFORE);
+    if (accepted) {
+        same("the calls one by one", panel_chain(number[0], system, edition, chained), KIFSANG_NO_REFUSAL);
+        for (size_t i = 0; i < KIFSANG_ORDER_COUNT; i++)
+            same("the row of the calls one by one", chained[i], row[1 + i]);
+    }
+}
+
 static void on_group_value(void)
 {
     uint64_t value = BEFORE;
@@ -283,6 +323,7 @@ static const struct {
     {"lines", on_lines},
     {"lines_from", on_lines_from},
     {"row", on_row},
+    {"panel_row", on_panel_row},
     {"group_value", on_group_value},
     {"distortion", on_distortion},
     {"fresh_record", on_fresh_record},

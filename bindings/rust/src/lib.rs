@@ -39,6 +39,8 @@ pub const WINDOW_LENGTH: usize = 2048;
 pub const LINE_COUNT: usize = 512;
 /// The numbers of lines are below it.
 pub const LINE_LIMIT: usize = 1024;
+/// Lines of the panel's buffer: the most that a group has.
+pub const PANEL_LINES: usize = 13;
 /// Values of a row: the orders 1..40, the value of order h at place h - 1.
 pub const ORDER_COUNT: usize = 40;
 /// Units in a sample count.
@@ -120,7 +122,7 @@ refusals! {
     1 UNKNOWN_SYSTEM "the system is neither 10 nor 12"
     2 SHORT_WINDOW "fewer than 2,048 samples from the start"
     3 SAMPLE_OUT_OF_RANGE "a sample of the window is outside -131071..131071"
-    4 WRONG_LINE_COUNT "not 512 lines, or lines past number 1023"
+    4 WRONG_LINE_COUNT "not 512 lines, 13 for the panel's row, or lines past number 1023"
     5 LINE_TOO_LARGE "a line above 2^59"
     6 ORDER_OUT_OF_RANGE "an order outside the orders of the call"
     7 UNSOUND_RECORD "words that are not a sound record"
@@ -213,6 +215,17 @@ mod raw {
             system: u32,
             edition: u32,
             lines: *const u64,
+            line_count: u64,
+            values: *mut u32,
+            value_count: u64,
+        ) -> u32;
+        pub fn kifsang_panel_row(
+            recording: *const i32,
+            recording_length: u64,
+            start: u64,
+            system: u32,
+            edition: u32,
+            lines: *mut u64,
             line_count: u64,
             values: *mut u32,
             value_count: u64,
@@ -431,6 +444,68 @@ pub fn row(
     answered(refusal, ())
 }
 
+/// Works out the row of the harmonic groups of the window that begins at `start`, with a buffer of
+/// [`PANEL_LINES`] lines in place of [`LINE_COUNT`]: the very row that [`spectrum`] and then [`row`], with
+/// [`Kind::HarmonicGroup`], would leave. What the lines held does not matter, and after an accepted call
+/// all of them are 0. It needs a seventh of the stack of [`spectrum`], and takes several times as long as those
+/// two calls. Only the window is looked at.
+///
+/// Refusals: 102 not 40 values; 1 system not 10 or 12; 19 edition not 0 or 1; 2 fewer than 2,048 samples
+/// from the start; 4 not 13 lines; 3 a sample of the window outside -131071..131071.
+///
+/// Proved error: that of [`group_value`], for each order.
+///
+/// ```
+/// use kifsang::{panel_row, Kind, Refusal, EDITION_2, EDITION_A1};
+/// use kifsang::{LINE_COUNT, ORDER_COUNT, PANEL_LINES, WINDOW_LENGTH};
+///
+/// // The groups of a single sample of 1000, over 13 lines at a time.
+/// let mut recording = [0; WINDOW_LENGTH];
+/// recording[0] = 1000;
+/// let (mut lines, mut panel) = ([1; PANEL_LINES], [0; ORDER_COUNT]);
+/// panel_row(&recording, 0, 10, EDITION_2, &mut lines, &mut panel)?;
+/// assert_eq!(panel, [8944; ORDER_COUNT]);
+/// assert_eq!(lines, [0; PANEL_LINES]);
+///
+/// // The same row over 512 lines.
+/// let (mut all_lines, mut values) = ([0; LINE_COUNT], [0; ORDER_COUNT]);
+/// kifsang::spectrum(&recording, 0, &mut all_lines)?;
+/// kifsang::row(Kind::HarmonicGroup, 10, EDITION_2, &all_lines, &mut values)?;
+/// assert_eq!(panel, values);
+///
+/// // Amendment A1 groups from the second order up.
+/// panel_row(&recording, 0, 10, EDITION_A1, &mut lines, &mut panel)?;
+/// assert_eq!((panel[0], panel[1]), (2828, 8944));
+///
+/// let refused = panel_row(&recording, 0, 10, EDITION_2, &mut all_lines, &mut panel);
+/// assert_eq!(refused, Err(Refusal::WRONG_LINE_COUNT));
+/// # Ok::<(), Refusal>(())
+/// ```
+pub fn panel_row(
+    recording: &[i32],
+    start: usize,
+    system: u32,
+    edition: u32,
+    lines: &mut [u64],
+    values: &mut [u32],
+) -> Result<(), Refusal> {
+    // SAFETY: each pointer comes with the length of its slice.
+    let refusal = unsafe {
+        raw::kifsang_panel_row(
+            recording.as_ptr(),
+            length(recording),
+            start as u64,
+            system,
+            edition,
+            lines.as_mut_ptr(),
+            length(lines),
+            values.as_mut_ptr(),
+            length(values),
+        )
+    };
+    answered(refusal, ())
+}
+
 /// Works out the group distortion of a row of 40 values, in parts per thousand of the value of order
 /// 1, below 2^45.
 ///
@@ -601,9 +676,10 @@ pub fn verdict(
 /// Refusals: 102 not 423 words; 7 the record is not sound; 6 order outside 1..40; 20 fewer than 15 windows.
 ///
 /// Proved error: none for the rows that were added; after any list of calls from a fresh record, refused
-/// ones included, it is the value of the last 15 accepted rows. Where these come from [`observe`], or from
-/// [`spectrum`] and [`row`], all of one kind, it is at most 8 units from the exact one, whose square is a
-/// fifteenth of the sum of the squares of the 15 windows' exact groups.
+/// ones included, it is the value of the last 15 accepted rows. Where these come from [`observe`], from
+/// [`spectrum`] and [`row`] or, for harmonic groups, from [`panel_row`], all of one kind, it is at most 8
+/// units from the exact one, whose square is a fifteenth of the sum of the squares of the 15 windows' exact
+/// groups.
 ///
 /// ```
 /// use kifsang::{add_row, three_second_value, Refusal};

@@ -28,6 +28,13 @@ natAbs-sfits w (negsuc n) f = f .sfits
 pub widened : (z : ℤ) → SFits w32 z → toZ w64 (ofZ w64 (toZ w32 (ofZ w32 z))) ≡ z
 widened z f = ap (λ y. toZ w64 (ofZ w64 y)) (toZ-ofZ w32 z f) ∙ toZ-ofZ w64 z (sfits-widen tt f)
 
+-- 64 bits cut to 32 are the same number, where it has 32
+pub cut-fits : (z : ℤ) → SFits w32 z → SFits w32 (toZ w64 (ofZ w64 z))
+cut-fits z f = rw (toZ-ofZ w64 z (sfits-widen tt f)) f
+
+pub cut : (z : ℤ) → SFits w32 z → toZ w32 (ofZ w32 (toZ w64 (ofZ w64 z))) ≡ z
+cut z f = ap (λ y. toZ w32 (ofZ w32 y)) (toZ-ofZ w64 z (sfits-widen tt f)) ∙ toZ-ofZ w32 z f
+
 -- a number below half the width's power, taken from 0
 pub negated : (w : Width) (n : ℕ) → n < 2 ^ hbits w → pos 0 -ℤ toZ w n ≡ negℤ (pos n)
 negated w n h = rw (toZ-pos w h) (+ℤ-idl (negℤ (pos n)))

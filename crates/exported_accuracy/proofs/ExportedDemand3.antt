@@ -38,7 +38,7 @@ use Rattle.exported_records.proofs.VerdictCases.{given-case}
 use Rattle.exported_accuracy.specs.Calls.{wordsAfter}
 use Rattle.exported_accuracy.specs.Claim.{smoothedWord, CalledVerdict, CalledThreeSecond, WordsHold, CalledObserve, ExportedDemand3Holds}
 use Rattle.exported_accuracy.proofs.WordsFollow.{Fit, Follows, FollowsBegun, after-whole, record-held, observed-follows, calls-follow}
-use Rattle.exported_accuracy.proofs.CalledGroups.{called-group, called-row}
+use Rattle.exported_accuracy.proofs.CalledGroups.{called-group, called-row, called-panel}
 
 -- the three-second value that is asked for
 called-three-second : (list : CallList) (words : List ℕ) → Follows list words → Fit list → CalledThreeSecond list words
@@ -132,6 +132,7 @@ exported-demand3 =
     record {
       groups = called-group;
       rows = called-row;
+      panels = called-panel;
       latest = λ words whole calls list came fits.
           let follow = calls-follow calls none words whole in
           let follows = subst (λ begun. FollowsBegun begun (wordsAfter words calls)) came follow in

@@ -1,5 +1,5 @@
 -- Demand 3 of what the exported calls leave in the caller's buffers (document 01, "Groups", "The list" and "Class A verdicts"), in every class,
--- under every edition and with the three-second value (document 02, cards 1, 7 and 8).
+-- under every edition, with the three-second value and with the panel's row (document 02, cards 1, 6, 7 and 8).
 use mathlib.Core.Path.{_≡_}
 use mathlib.Core.Bool.{cond}
 use mathlib.Core.List.{List}
@@ -14,6 +14,7 @@ use Rattle.rows.specs.declared.Setup.{Setup}
 use Rattle.spectrum.specs.Line.{windowAt}
 use Rattle.spectrum.specs.Spectrum.{spectrumRefusal, spectrumExit}
 use Rattle.groups.specs.declared.Kind.{Kind}
+use Rattle.groups.specs.declared.Kind.the-variants.{HarmonicGroup}
 use Rattle.limits.specs.declared.Class.{Class}
 use Rattle.limits.specs.Letters.{letterOf}
 use Rattle.verdict.specs.declared.Question.{Question}
@@ -30,6 +31,7 @@ use Rattle.accuracy.specs.LatestRows.{threeSecondMargin, exactThreeSecond, last
 use Rattle.accuracy.specs.Claim.{WorkedList, LBook, UBook, Keeps, ListHolds, observedList}
 use Rattle.exported_windows.specs.Kinds.{kindWith}
 use Rattle.exported_windows.specs.GroupCalls.{groupCallRefusal, groupCallExit, rowCallRefusal, rowCallExit}
+use Rattle.exported_windows.specs.PanelCall.{panelCallRefusal, panelCallValuesExit}
 use Rattle.record_words.specs.Words.{smoothedPlace, recordWords, wordsOf}
 use Rattle.exported_records.specs.RecordCalls.{lentRow}
 use Rattle.exported_windows.specs.ObserveCall.{observeCallRefusal, observeCallExit}
@@ -100,6 +102,17 @@ module _ (recording : List ℤ) (start : ℕ) (buffer : List ℕ) (number : ℕ)
       (lentRow setup (rowCallExit number setup (spectrumExit recording start buffer) before))
       (windowAt recording start)
 
+-- kifsang_panel_row of a recording, not refused (document 02, card 6): its row is worked from samples, and each of its values is within 7 units of the exact group
+module _ (recording : List ℤ) (start : ℕ) (setup : Setup) (lines before : List ℕ) where
+  pub record PanelHolds : Type 0 where
+    pub worked : Worked HarmonicGroup (lentRow setup (panelCallValuesExit setup recording start lines before)) (windowAt recording start)
+    pub near : EveryOrder (λ order.
+        ValueNear HarmonicGroup setup order (windowAt recording start)
+        (getD (panelCallValuesExit setup recording start lines before) (order - 1) 0))
+
+  abbrev pub CalledPanel : Type 0
+  CalledPanel = panelCallRefusal setup recording start lines before ≡ noRefusal → PanelHolds
+
 -- kifsang_observe, not refused: the words that it leaves hold what demand 3 claims of the list of the windows' rows, which are worked from samples
 abbrev pub CalledObserve : List ℤ → ℕ → ℕ → Setup → ℕ → List ℕ → Type 0
 CalledObserve recording start number setup windows before =
@@ -107,7 +120,7 @@ CalledObserve recording start number setup windows before =
     WordsHold (kindWith number) (observedList (kindWith number) setup recording start windows)
     (observeCallExit number setup recording start windows before)
 
--- Demand 3 for the exported calls: the distance of a group value; a row that is worked from samples; and for any calls on
+-- Demand 3 for the exported calls: the distance of a group value; a row that is worked from samples, with 512 lines and with 13; and for any calls on
 -- any 423 words, refused ones and ones that lend fewer words included, that they hold the record after the list that they have
 -- come to and what the three-second value then is, and the claim about that list where its accepted rows are worked from samples
 -- of one kind; and of an observation, whose rows are.
@@ -118,6 +131,9 @@ pub record ExportedDemand3Holds : Type 0 where
   pub rows :
       (recording : List ℤ) (start : ℕ) (buffer : List ℕ) (number : ℕ) (setup : Setup) (before : List ℕ) →
       CalledRow recording start buffer number setup before
+  pub panels :
+      (recording : List ℤ) (start : ℕ) (setup : Setup) (lines before : List ℕ) →
+      CalledPanel recording start setup lines before
   pub latest :
       (words : List ℕ) →
       length words ≡ recordWords →

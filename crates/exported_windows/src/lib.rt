@@ -4,3 +4,4 @@ mod group_calls;
 mod kinds;
 mod line_calls;
 mod observe_call;
+mod panel_call;

@@ -9,9 +9,9 @@ use native.Mathlib.Omega.{arith}
 use lib.Dec.{ltb, lit<}
 use lib.IntN.{ℤ}
 use lib.ListN.{length, getD, replicate, List·getD-eq-default}
-use borrow.Author.Tests.{ltb-false, eqb-true, ne-eqb, not-false}
+use borrow.Author.Tests.{ltb-false, eqb-true, eq-eqb, ne-eqb, not-false}
 use Rattle.algebra.specs.Lists.{tabulate, anyOf}
-use Rattle.algebra.proofs.Lists.{getD-tabulate, anyOf-none, getD-tabulate-le, tabulate-same}
+use Rattle.algebra.proofs.Lists.{length-tabulate, getD-tabulate, anyOf-none, getD-tabulate-le, tabulate-same}
 use Rattle.integers.proofs.Root.{lt-rootLimit, root-of-largest, root-le-of-le}
 use Rattle.refusals.specs.Numbers.{noRefusal, unknownSystem, unknownEdition, orderOutOfRange, wrongLineCount, lineTooLarge}
 use Rattle.refusals.proofs.Answers.{no-faults, unlessRefused-accepted, unlessRefused-refused}
@@ -19,11 +19,13 @@ use Rattle.rows.specs.Systems.{isSystem}
 use Rattle.rows.specs.Editions.{isEdition, edition2}
 use Rattle.rows.specs.Setups.{isSetup, setupOf}
 use Rattle.rows.specs.declared.Setup.{Setup}
-use Rattle.rows.proofs.Setups.{isSetup-known}
+use Rattle.rows.proofs.Setups.{isSetup-known, setup-parts}
 use Rattle.rows.specs.Orders.{orderCount, isOrder}
 use Rattle.rows.specs.Rows.{largestValue, refusedRow, ValuesFit}
 use Rattle.rows.proofs.Orders.{order-of-place}
 use Rattle.spectrum.specs.Line.{lineCount, largestLine, linesOf}
+use Rattle.spectrum.specs.Spectrum.{outOfRange}
+use Rattle.spectrum.proofs.Lines.{length-linesOf, no-line-too-large}
 use Rattle.groups.specs.declared.Kind.{Kind}
 use Rattle.groups.specs.Spans.{Weighted, weightsOf, totalTwiceWeight, largestTotal, weightedSum}
 use Rattle.groups.specs.Group.{lineAt, groupChecks, groupRefusal, valueOver, groupValue, groupAnswer, groupValues, groupRowRefusal, groupRowAnswer, windowRow}
@@ -111,6 +113,10 @@ unfolding groupRefusal groupRowRefusal
 groupRefusal-of-place setup i lines inside = rw (order-of-place i inside)
 
 module _ (kind : Kind) (setup : Setup) (lines : List ℕ) where
+  pub groupValues-length : length (groupValues kind setup lines) ≡ orderCount
+  unfolding groupValues
+  groupValues-length = length-tabulate orderCount _
+
   pub groupValues-le : (i : ℕ) → getD (groupValues kind setup lines) i 0 ≤ largestValue
   unfolding groupValues
   groupValues-le = getD-tabulate-le orderCount _ largestValue (λ j inside. answered-value-le kind setup (j + 1) lines)
@@ -146,6 +152,19 @@ unfolding groupRefusal isSystem isEdition isOrder anyOf tabulate
 largest-lines-accepted = refl
 
 -- ---- the row of a window
+
+-- it is never refused for its lines
+pub windowRow-accepted : (setup : Setup) (window : List ℤ) → isSetup setup ≡ true → anyOf outOfRange window ≡ false
+    → groupRowRefusal setup (linesOf window) ≡ noRefusal
+unfolding groupRowRefusal
+windowRow-accepted setup window known in-range =
+    let parts = setup-parts setup known in
+    rw (
+      parts .system-known,
+      parts .edition-known,
+      eq-eqb (length (linesOf window)) lineCount (length-linesOf window),
+      no-line-too-large window in-range,
+    )
 
 -- the values of a window's row have 32 bits
 pub windowRow-fits : (kind : Kind) (setup : Setup) (window : List ℤ) → ValuesFit (windowRow kind setup window)

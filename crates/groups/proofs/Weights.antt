@@ -1,7 +1,7 @@
 -- Laws of the weighted sum over any list of weights, and over any span: every line is before the span's end, and
 -- the sum of 2×w×L is twice the sum of the lines, less one line at each end where the ends are half.
 -- Of the kinds' spans: for systems 10 and 12 twice the weights add up to at most 24, and for orders 1..40 the span ends among the 512 lines.
-use mathlib.Core.Path.{_≡_, refl, sym, ap}
+use mathlib.Core.Path.{_≡_, refl, sym, ap, _∙_}
 use mathlib.Core.Bool.{Bool, true, false, cond, true≢false}
 use mathlib.Core.Logic.{⊎-elim}
 use mathlib.Core.List.{List}
@@ -111,6 +111,24 @@ module _ (f : ℕ → ℕ) (twice : ℕ → ℕ) (first : ℕ) where
       let same : first + some + more ≡ first + (some + more) = omega arith in
       rw (e, ← add-one more, linesWith-suc (some + more), linesTotal-suc f (first + some) more, same, h more (omega arith))
       (omega (arith, linesWith-whole some more (λ i l. h i (omega arith))))
+
+-- the same weights at other places, where the same lines stand
+linesWith-moved : (f g twice : ℕ → ℕ) (first other count : ℕ) → ((i : ℕ) → i < count → f (first + i) ≡ g (other + i))
+    → weightedSum f (linesWith twice first count) ≡ weightedSum g (linesWith twice other count)
+linesWith-moved f g twice first other zero same = linesWith-none f twice first ∙ sym (linesWith-none g twice other)
+linesWith-moved f g twice first other (suc count) same =
+    rw (
+      ← add-one count,
+      linesWith-suc f twice first count,
+      linesWith-suc g twice other count,
+      linesWith-moved f g twice first other count (λ i below. same i (omega arith)),
+      same count (omega arith),
+    )
+
+pub weightedSum-moved : (f g : ℕ → ℕ) (span : Span) (first : ℕ) → ((i : ℕ) → i < span .count → f (first + i) ≡ g (span .first + i))
+    → weightedSum f (weightsIn (record { first = first; count = span .count; «half_ends» = span .«half_ends» })) ≡ weightedSum g (weightsIn span)
+unfolding weightsIn
+weightedSum-moved f g span first = linesWith-moved f g (twiceWeightAt span) first (span .first) (span .count)
 
 module _ (f : ℕ → ℕ) (span : Span) where
   -- a span with half ends: the lines between count twice, and each end once

@@ -1,10 +1,13 @@
 // From the lines of a window to its harmonic and interharmonic groups.
 
 mod group;
+mod panel;
 mod spans;
 
 pub use group::group_row;
 pub use group::group_value;
+pub use panel::PANEL_LINES;
+pub use panel::panel_row;
 
 // The five groupings of document 01.
 pub enum Kind {

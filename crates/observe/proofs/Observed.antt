@@ -32,10 +32,10 @@ use Rattle.observation.proofs.SoundRecord.{sound-parts, empty-record-sound, fre
 use Rattle.observation.proofs.RecordAfter.{record-after-tabulate}
 use Rattle.observation.proofs.RecordBooks.{answer-setup}
 use Rattle.groups.specs.Group.{groupRowRefusal, windowRow}
-use Rattle.groups.proofs.GroupSum.{windowRow-fits, windowRow-setup}
+use Rattle.groups.proofs.GroupSum.{windowRow-accepted, windowRow-fits, windowRow-setup}
 use Rattle.observe.specs.Observe.{windowStart, windowRows, addWindowChecks, observeChecks, observeRefusal, observeAnswer}
 use Rattle.observe.specs.Calls.{lentLines, rowCalls, windowCalls, callsAfter}
-use Rattle.observe.proofs.WindowCalls.{spectrumRefusal-lent, groupRowRefusal-window, windowCalls-answered}
+use Rattle.observe.proofs.WindowCalls.{spectrumRefusal-lent, windowCalls-answered}
 
 module _ (setup : Setup) (recording : List ℤ) (start : ℕ) where
   observeChecks-numbered : (n : ℕ) → numbered (observeChecks setup recording start n) ≡ true
@@ -258,7 +258,7 @@ module _ (setup : Setup) (recording : List ℤ) (start : ℕ) where
       let windows-are : o .windows ≡ n = rw (held .record-is) at (held .windows-are) in
       record {
         spectrum-accepted = spectrumRefusal-lent recording (windowStart start n) ∙ rw (taken .whole, taken .in-range);
-        row-accepted = groupRowRefusal-window setup recording (windowStart start n) (rw setup-is at (sound-parts o sound .setup-known)) (taken .in-range);
+        row-accepted = windowRow-accepted setup (windowAt recording (windowStart start n)) (rw setup-is at (sound-parts o sound .setup-known)) (taken .in-range);
         add-accepted =
             addRowRefusal-own o _ sound (windowRow-setup kind setup _ ∙ sym setup-is) ∙ rw (windows-are, taken .room);
       }

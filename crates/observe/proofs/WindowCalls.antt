@@ -18,7 +18,7 @@ use Rattle.spectrum.specs.Line.{lineCount, windowAt, linesOf}
 use Rattle.spectrum.specs.Spectrum.{shortCheck, rangeCheck, spectrumRefusal, spectrumExit}
 use Rattle.spectrum.proofs.Lines.{length-linesOf, no-line-too-large}
 use Rattle.groups.specs.declared.Kind.{Kind}
-use Rattle.groups.proofs.GroupSum.{windowRow-setup}
+use Rattle.groups.proofs.GroupSum.{windowRow-setup, windowRow-accepted}
 use Rattle.observation.specs.declared.Observation.{Observation}
 use Rattle.observation.specs.declared.RecordAnswer.{RecordAnswer}
 use Rattle.observation.specs.Soundness.{isSound}
@@ -34,21 +34,6 @@ pub spectrumRefusal-lent :
     spectrumRefusal recording at lentLines ≡ firstFault (shortCheck recording at ∷ rangeCheck recording at ∷ [])
 unfolding spectrumRefusal
 spectrumRefusal-lent recording at = refl
-
--- the lines of a window in range are never refused
-pub groupRowRefusal-window :
-    (setup : Setup) (recording : List ℤ) (at : ℕ) → isSetup setup ≡ true → rangeCheck recording at .0 ≡ false →
-    groupRowRefusal setup (linesOf (windowAt recording at)) ≡ noRefusal
-unfolding groupRowRefusal
-groupRowRefusal-window setup recording at known in-range =
-    let window = windowAt recording at in
-    let parts = setup-parts setup known in
-    rw (
-      parts .system-known,
-      parts .edition-known,
-      eq-eqb (length (linesOf window)) lineCount (length-linesOf window),
-      no-line-too-large window in-range,
-    )
 
 module _ (kind : Kind) (setup : Setup) (recording : List ℤ) (at : ℕ) where
   rowCalls-short : shortCheck recording at .0 ≡ true → rowCalls kind setup recording at ≡ record { refusal = shortWindow; row = refusedRow }
@@ -66,7 +51,7 @@ module _ (kind : Kind) (setup : Setup) (recording : List ℤ) (at : ℕ) where
       rowCalls kind setup recording at ≡ record { refusal = noRefusal; row = windowRow kind setup (windowAt recording at) }
   unfolding rowCalls spectrumExit groupRowAnswer windowRow
   rowCalls-taken known whole in-range =
-      rw (spectrumRefusal-lent recording at, whole, in-range, groupRowRefusal-window setup recording at known in-range)
+      rw (spectrumRefusal-lent recording at, whole, in-range, windowRow-accepted setup (windowAt recording at) known in-range)
 
 module _ (kind : Kind) (recording : List ℤ) (at : ℕ) (o : Observation) (sound : isSound o ≡ true) where
   abbrev rowAdded : Row

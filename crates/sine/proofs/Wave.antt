@@ -1,6 +1,6 @@
 -- The table's sine: its bound, its distance from the exact sine, its period, its list, and worked values.
 -- What holds of every index is shown over the quarter once.
-use mathlib.Core.Path.{_≡_, refl, _∙_}
+use mathlib.Core.Path.{_≡_, refl, ap, _∙_}
 use mathlib.Core.Logic.{⊎-elim}
 use mathlib.Core.List.{[], _∷_, map}
 use Prim.Native.Nat.{ℕ, zero, suc, _+_, _*_, _%_, _≤_, _<_}
@@ -15,7 +15,7 @@ use Rattle.algebra.proofs.Integer.{*ℤ-negℤ, natAbs-negℤ}
 use Rattle.algebra.proofs.Lists.{getD-tabulate}
 use Rattle.sine.specs.Turn.{overHalf, overTurn, turn, halfTurn, quarterTurn}
 use Rattle.sine.specs.ExactSine.{denominator, term, factorial, added, takenAway, quarterSine, exactSine, exactCosine}
-use Rattle.sine.specs.Wave.{fullScale, tableEntry, tableSine, tableCosine, WithinHalfUnit, quarterList, waveList}
+use Rattle.sine.specs.Wave.{fullScale, tableEntry, tableSine, tableCosine, WithinHalfUnit, quarterList, heightIn, waveList}
 use Rattle.algebra.proofs.Computed.{pass-below}
 use Rattle.algebra.proofs.Rounding.{nearest-is}
 use Rattle.sine.proofs.Turn.{le-or-lt, overTurn-first, over-turn, overTurn-mod}
@@ -93,6 +93,14 @@ tableSine-mod = overTurn-mod tableEntry
 pub quarterList-at : (m : ℕ) → m ≤ quarterTurn → getD quarterList m 0 ≡ tableEntry m
 unfolding quarterList
 quarterList-at m h = getD-tabulate (quarterTurn + 1) tableEntry m 0 (omega arith)
+
+-- a wave that is made of the table's list is the table's sine
+pub quarterList-wave : (i : ℕ) → overTurn (heightIn quarterList) i ≡ tableSine i
+unfolding tableSine
+quarterList-wave =
+    over-turn (λ made table. made ≡ table) (heightIn quarterList) tableEntry
+    (λ m h. ap pos (quarterList-at m h))
+    (λ a b same. ap negℤ same)
 
 pub waveList-at : (i : ℕ) → i < turn → getD waveList i (pos 0) ≡ tableSine i
 unfolding waveList

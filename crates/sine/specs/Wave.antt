@@ -2,6 +2,7 @@
 use mathlib.Core.List.{List}
 use Prim.Native.Nat.{ℕ, _+_, _*_, _^_, _≤_}
 use lib.IntN.{ℤ, pos, natAbs, _-ℤ_, _*ℤ_}
+use lib.ListN.{getD}
 use Rattle.algebra.specs.Lists.{tabulate}
 use Rattle.algebra.specs.Rounding.{nearest}
 use Rattle.sine.specs.Turn.{overTurn, turn, quarterTurn}
@@ -30,6 +31,10 @@ WithinHalfUnit exact table = 2 * natAbs (pos fullScale *ℤ exact -ℤ pos denom
 -- "The 513 entries of the quarter wave"
 unfoldable pub quarterList : List ℕ
 quarterList = tabulate (quarterTurn + 1) tableEntry
+
+-- the height at a place of a lent quarter, 0 past its end
+abbrev pub heightIn : List ℕ → ℕ → ℕ
+heightIn quarter m = getD quarter m 0
 
 -- the wave: the table's sine at each index of a turn
 unfoldable pub waveList : List ℤ

@@ -3,12 +3,11 @@
 // the sine. The table is taken into a local once in each public call; specs/Wave.antt defines the
 // values, and proofs/Wave.antt has their bound and their distance from the exact sine.
 ghost use mathlib.Core.Path.{_≡_};
-ghost use Prim.Native.Nat.{_%_, _≤_, _<_};
-ghost use lib.IntN.{pos, negℤ};
+ghost use Prim.Native.Nat.{_%_, _<_};
 ghost use lib.ListN.{length};
 ghost use Rattle.algebra.specs.Lists.{tabulate};
-ghost use Rattle.sine.specs.Turn.{overHalf, turn, halfTurn};
-ghost use Rattle.sine.specs.Wave.{fullScale, tableEntry, tableSine, quarterList, waveList};
+ghost use Rattle.sine.specs.Turn.{overHalf, overTurn, turn, halfTurn};
+ghost use Rattle.sine.specs.Wave.{heightIn, tableSine, quarterList, waveList};
 
 // Indices in a turn, in half of it and in a quarter.
 pub const TURN: usize = 2048;
@@ -537,32 +536,23 @@ const QUARTER_WAVE: [u32; QUARTER_TURN + 1] = [
     1073741824,
 ];
 
-// The quarter wave, each entry shown to be its definition.
-fn quarter_wave() -> [u32; QUARTER_TURN + 1]
+// The quarter wave, each entry shown to be its definition. It is a copy, to be made once in a call and lent.
+pub fn quarter_wave() -> [u32; QUARTER_TURN + 1]
     ensures { λ r. ⌜ r ≡ quarterList ⌝ }
 {
     QUARTER_WAVE
 }
 
-// The first half turn: up the quarter wave, and back.
+// The first half turn: up the lent quarter, and back.
 fn half_wave(quarter: &[u32; QUARTER_TURN + 1], at: usize) -> u32
-    requires { ⌜ now quarter ≡ quarterList ⌝ }
     requires { ⌜ at < halfTurn ⌝ }
-    ensures { λ r. ⌜ r ≡ overHalf tableEntry at ⌝ }
+    ensures { λ r. ⌜ r ≡ overHalf (heightIn (now (quarter .entry))) at ⌝ }
 {
     if at <= QUARTER_TURN {
         quarter[at]
     } else {
         quarter[HALF_TURN - at]
     }
-}
-
-// The negative of a height, for the second half turn.
-fn negated(height: u32) -> i32
-    requires { ⌜ height ≤ fullScale ⌝ }
-    ensures { λ r. ⌜ r ≡ negℤ (pos height) ⌝ }
-{
-    -(height as i32)
 }
 
 // An index modulo a turn.
@@ -572,16 +562,15 @@ pub fn turn_index(index: usize) -> usize
     index & TURN_MASK
 }
 
-// The wave at any index, from the lent quarter wave.
-fn wave_at(quarter: &[u32; QUARTER_TURN + 1], index: usize) -> i32
-    requires { ⌜ now quarter ≡ quarterList ⌝ }
-    ensures { λ r. ⌜ r ≡ tableSine index ⌝ }
+// The wave at any index, made of any lent quarter: of the table's, the table's sine.
+pub fn wave_at(quarter: &[u32; QUARTER_TURN + 1], index: usize) -> i64
+    ensures { λ r. ⌜ r ≡ overTurn (heightIn (now (quarter .entry))) index ⌝ }
 {
     let at = turn_index(index);
     if at < HALF_TURN {
-        half_wave(quarter, at) as i32
+        half_wave(quarter, at) as i64
     } else {
-        negated(half_wave(quarter, at - HALF_TURN))
+        -(half_wave(quarter, at - HALF_TURN) as i64)
     }
 }
 
@@ -592,7 +581,7 @@ fn fill_from(quarter: &[u32; QUARTER_TURN + 1], wave: &mut [i32])
 {
     let mut i = 0;
     while i < wave.len() {
-        wave[i] = wave_at(quarter, i);
+        wave[i] = wave_at(quarter, i) as i32;
         i += 1;
     }
 }

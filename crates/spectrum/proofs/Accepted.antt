@@ -2,18 +2,17 @@
 use mathlib.Core.Bool.{Bool, false, not}
 use mathlib.Core.List.{List}
 use mathlib.Core.Path.{_≡_, refl}
-use Prim.Native.Nat.{ℕ, _-_, _≤_}
+use Prim.Native.Nat.{ℕ, _+_, _-_, _≤_}
 use native.Mathlib.Omega.{arith}
-use borrow.Author.Tests.{ltb-false}
+use borrow.Author.Tests.{ltb-false, le-ltb}
 use lib.Dec.{eqb}
 use lib.IntN.{ℤ}
 use lib.ListN.{length, length-take, length-drop}
 use Rattle.algebra.specs.Lists.{anyOf}
 use Rattle.refusals.specs.Numbers.{noRefusal, shortWindow, wrongLineCount, sampleOutOfRange}
 use Rattle.refusals.proofs.Answers.{no-faults}
-use Rattle.spectrum.specs.Line.{windowLength, lineCount, windowAt}
-use Rattle.spectrum.specs.Spectrum.{outOfRange, windowChecks, spectrumRefusal}
-use Rattle.spectrum.specs.Prepared.{windowRefusal}
+use Rattle.spectrum.specs.Line.{windowLength, lineCount, lineLimit, windowAt}
+use Rattle.spectrum.specs.Spectrum.{outOfRange, windowChecks, windowRefusal, spectrumRefusal, linesFromRefusal}
 
 pub record Accepted (recording : List ℤ) (start : ℕ) (wrongCount : Bool) : Type 0 where
   pub whole-window : length (windowAt recording start) ≡ windowLength
@@ -40,3 +39,25 @@ pub accepted :
     Accepted recording start (not (eqb (length buffer) lineCount))
 unfolding spectrumRefusal windowRefusal
 accepted recording start buffer = window-accepted recording start (not (eqb (length buffer) lineCount))
+
+-- a window that one call for lines accepts is accepted by every other, with a buffer of a length that it takes
+pub window-again :
+    (recording : List ℤ) (start : ℕ) (wrongCount other : Bool) →
+    windowRefusal recording start wrongCount ≡ noRefusal →
+    other ≡ false →
+    windowRefusal recording start other ≡ noRefusal
+unfolding windowRefusal
+window-again recording start wrongCount other passed right =
+    let no-fault = no-faults (windowChecks recording start wrongCount) refl passed in
+    rw (no-fault shortWindow, right, no-fault sampleOutOfRange)
+
+-- so for any part of its lines
+pub lines-accepted :
+    (recording : List ℤ) (start : ℕ) (wrongCount : Bool) →
+    windowRefusal recording start wrongCount ≡ noRefusal →
+    (first : ℕ) (buffer : List ℕ) →
+    first + length buffer ≤ lineLimit →
+    linesFromRefusal recording start first buffer ≡ noRefusal
+unfolding windowRefusal linesFromRefusal
+lines-accepted recording start wrongCount passed first buffer within =
+    window-again recording start wrongCount _ passed (le-ltb lineLimit (first + length buffer) within)

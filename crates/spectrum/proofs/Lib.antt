@@ -3,6 +3,7 @@ pub mod Bounds
 pub mod FoldedPlaces
 pub mod LineWaves
 pub mod PairedSums
+pub mod QuarterSums
 pub mod HalvedSums
 pub mod FoldedBounds
 pub mod FoldedLines

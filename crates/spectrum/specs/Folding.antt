@@ -1,10 +1,10 @@
 -- Folding a window before anything is multiplied (card 13). Where the wave at two places of a list is the same, the sum of what they hold stands for both; where it is opposite, the difference does.
--- No public contract cites it: proofs/PairedSums.antt and proofs/HalvedSums.antt show that the sums over what is left are document 01's.
-use mathlib.Core.Bool.{cond, _||_}
+-- No public contract cites it: proofs/PairedSums.antt, proofs/QuarterSums.antt and proofs/HalvedSums.antt show that the sums over what is left are document 01's.
+use mathlib.Core.Bool.{Bool, cond, not, _||_}
 use mathlib.Core.List.{List}
 use mathlib.Core.Path.{_≡_}
 use Prim.Native.Nat.{ℕ, zero, suc, _+_, _-_, _*_, _%_, _^_, _≤_}
-use lib.Dec.{ltb}
+use lib.Dec.{eqb, ltb}
 use lib.IntN.{ℤ, pos, natAbs, _+ℤ_, _-ℤ_, _*ℤ_}
 use lib.ListN.{getD, length}
 use Rattle.algebra.specs.Sums.{sumTo}
@@ -42,6 +42,35 @@ cosineOverPairs window k =
 -- the whole sum of the sine over the pairs' differences; at the samples 0 and 1024 the sine is 0
 unfoldable pub sineOverPairs : List ℤ → ℕ → ℤ
 sineOverPairs window k = sumTo 1023 (λ i. pairDifference window (1 + i) *ℤ tableSine ((1 + i) * k))
+
+-- ---- pairs j and 1024 − j together, for a line that is worked by itself (card 6)
+
+-- of two numbers the sum, or for a line with an odd number the first less the second
+abbrev pub across : Bool → ℤ → ℤ → ℤ
+across odd a b = cond odd (a -ℤ b) (a +ℤ b)
+
+abbrev pub isOdd : ℕ → Bool
+isOdd k = eqb (k % 2) 1
+
+-- what the cosine, and what the sine, of line k takes at j: half a turn less an angle turns the sign of an odd line's cosine, and of an even line's sine
+abbrev pub cosineAcross : List ℤ → ℕ → ℕ → ℤ
+cosineAcross window k j = across (isOdd k) (pairSum window j) (pairSum window (1024 - j))
+
+abbrev pub sineAcross : List ℤ → ℕ → ℕ → ℤ
+sineAcross window k j = across (not (isOdd k)) (pairDifference window j) (pairDifference window (1024 - j))
+
+-- the whole sum of the cosine, for j = 1..511, with the samples 0 and 1024 together and pair 512 alone
+unfoldable pub cosineOverQuarter : List ℤ → ℕ → ℤ
+cosineOverQuarter window k =
+    sumTo 511 (λ i. cosineAcross window k (1 + i) *ℤ tableCosine ((1 + i) * k))
+    +ℤ across (isOdd k) (heldBy window 0) (heldBy window 1024) *ℤ tableCosine 0
+    +ℤ pairSum window 512 *ℤ tableCosine (512 * k)
+
+-- that of the sine
+unfoldable pub sineOverQuarter : List ℤ → ℕ → ℤ
+sineOverQuarter window k =
+    sumTo 511 (λ i. sineAcross window k (1 + i) *ℤ tableSine ((1 + i) * k))
+    +ℤ pairDifference window 512 *ℤ tableSine (512 * k)
 
 -- ---- one folding, between any two places
 

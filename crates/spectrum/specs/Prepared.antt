@@ -6,11 +6,16 @@ use Prim.Native.Nat.{ℕ, _+_, _*_, _<_, _≤_}
 use lib.IntN.{ℤ, natAbs}
 use lib.ListN.{length}
 use Rattle.algebra.specs.Lists.{anyOf}
-use Rattle.refusals.specs.Answers.{firstFault, unlessRefused}
+use Rattle.refusals.specs.Answers.{unlessRefused}
 use Rattle.sine.specs.Wave.{waveList}
 use Rattle.spectrum.specs.Line.{windowLength, windowAt, lineOf, linesFrom}
 use Rattle.spectrum.specs.Folding.{heldBy, foldedWindow, largestFolded}
-use Rattle.spectrum.specs.Spectrum.{outOfRange, windowChecks}
+use Rattle.spectrum.specs.Spectrum.{outOfRange, windowRefusal}
+
+-- a window of all its samples, each in range
+pub record Whole (window : List ℤ) : Type 0 where
+  pub long : length window ≡ windowLength
+  pub in-range : anyOf outOfRange window ≡ false
 
 -- a window in range, folded, and one turn of the table's sine
 pub record Prepared (folded wave : List ℤ) : Type 0 where
@@ -41,11 +46,7 @@ abbrev pub LinesOfFolded : List ℤ → ℕ → ℕ → List ℕ → Type 0
 LinesOfFolded folded first count lines =
     (window : List ℤ) → heldBy folded ≡ foldedWindow window → lines ≡ linesFrom first count window
 
--- the refusal of a call for lines, which has its own test for a buffer of the wrong length
-unfoldable pub windowRefusal : List ℤ → ℕ → Bool → ℕ
-windowRefusal recording start wrongCount = firstFault (windowChecks recording start wrongCount)
-
--- its buffer at exit: as many lines from the first on as it holds, or on a refusal what it held
+-- the buffer at exit of a call for lines, which has its own test for a buffer of the wrong length: as many lines from the first on as it holds, or on a refusal what it held
 unfoldable pub windowExit : List ℤ → ℕ → Bool → ℕ → List ℕ → List ℕ
 windowExit recording start wrongCount first buffer =
     unlessRefused (windowRefusal recording start wrongCount)

@@ -30,6 +30,9 @@ abbrev pub windowChecks : List ℤ → ℕ → Bool → List (Bool × ℕ)
 windowChecks recording start wrongCount =
     shortCheck recording start ∷ (wrongCount, wrongLineCount) ∷ rangeCheck recording start ∷ []
 
+unfoldable pub windowRefusal : List ℤ → ℕ → Bool → ℕ
+windowRefusal recording start wrongCount = firstFault (windowChecks recording start wrongCount)
+
 -- the row "spectrum": 4 buffer not 512 lines
 abbrev pub spectrumChecks : List ℤ → ℕ → List ℕ → List (Bool × ℕ)
 spectrumChecks recording start buffer = windowChecks recording start (not (eqb (length buffer) lineCount))

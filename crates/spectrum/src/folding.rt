@@ -17,8 +17,8 @@ const LAST: usize = WINDOW_LENGTH - 1;
 // The places of the cosine's sums after the pairs are 0..1024.
 const PAIRED_REACH: usize = WINDOW_LENGTH / 2;
 
-// The sum of two numbers of a list that is folded.
-fn sum(a: i32, b: i32) -> i32
+// The sum of two numbers that are folded.
+pub(crate) fn sum(a: i32, b: i32) -> i32
     requires { ⌜ natAbs a < 2 ^ 30 ⌝ }
     requires { ⌜ natAbs b < 2 ^ 30 ⌝ }
     ensures { λ r. ⌜ r ≡ a +ℤ b ⌝ }
@@ -27,7 +27,7 @@ fn sum(a: i32, b: i32) -> i32
 }
 
 // The first less the second.
-fn difference(a: i32, b: i32) -> i32
+pub(crate) fn difference(a: i32, b: i32) -> i32
     requires { ⌜ natAbs a < 2 ^ 30 ⌝ }
     requires { ⌜ natAbs b < 2 ^ 30 ⌝ }
     ensures { λ r. ⌜ r ≡ a -ℤ b ⌝ }

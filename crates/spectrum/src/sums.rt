@@ -23,14 +23,14 @@ const SUM_SHIFT: i64 = 29;
 // Half of what they are divided by.
 const HALF_SUM_SCALE: i64 = 1 << (SUM_SHIFT - 1);
 
-// Both sums of a line; the sine's but for its sign.
-struct Sums {
-    cosine: i64,
-    sine: i64,
+// Both sums of a line; of a folded window the sine's but for its sign.
+pub(crate) struct Sums {
+    pub(crate) cosine: i64,
+    pub(crate) sine: i64,
 }
 
 // The sum with one more summand: sample times wave.
-fn accumulate(sum: i64, sample: i32, wave: i32) -> i64
+pub(crate) fn accumulate(sum: i64, sample: i32, wave: i32) -> i64
     requires { ⌜ natAbs sum < 2 ^ 62 ⌝ }
     ensures { λ r. ⌜ r ≡ sum +ℤ sample *ℤ wave ⌝ }
 {
@@ -117,7 +117,7 @@ fn sum_of_line_0(folded: &[i32], wave: &[i32; TURN]) -> i64
 }
 
 // The square of A or B: of the sum divided by 2^29, to the nearest, halves up.
-fn rounded_square(sum: i64) -> u64
+pub(crate) fn rounded_square(sum: i64) -> u64
     requires { ⌜ natAbs sum < 2 ^ 58 ⌝ }
     ensures { λ r. ⌜ r ≡ square (nearestℤ sum sumScale) ⌝ }
 {

@@ -55,6 +55,8 @@ use Rattle.exported_text.specs.ColumnCalls.{columnCallExit}
 use Rattle.exported_text.specs.ListingCall.{listingCallRefusal, listingCallExit, listingCallCountExit}
 use Rattle.exported_limits.specs.LimitCall.{limitNumeratorExit, limitDenominatorExit}
 use Rattle.exported_records.specs.RecordCalls.{freshCallRefusal, freshCallExit, addRowCallRefusal, addRowCallExit}
+use Rattle.groups.specs.Panel.{panelRefusal}
+use Rattle.exported_windows.specs.PanelCall.{panelCallRefusal, panelCallLinesExit, panelCallValuesExit}
 use Rattle.exported_windows.specs.ObserveCall.{observeCallRefusal, observeCallExit}
 use Rattle.three_seconds.specs.ThreeSecond.{threeSecondOf, threeSecondRefusal}
 use Rattle.exported_records.specs.ThreeSecondCall.{threeSecondCallRefusal, threeSecondCallExit}
@@ -243,6 +245,31 @@ rows-worked :
     [])
 unfolding Alike rowFor rowCallRefusal rowCallExit isKind kindWith kinds groupRowRefusal groupRefusal isSystem isEdition isOrder groupValues groupAnswer groupValue valueOver rootOf largest spanOf groupedAs weightsIn weightedSum sumOver tabulate anyOf
 rows-worked = refl
+
+-- ---- kifsang_panel_row
+
+-- the refusal, the lines and the values
+panelFor : ℕ → ℕ → List ℤ → ℕ → List ℕ → List ℕ → ℕ × (List ℕ × List ℕ)
+panelFor system edition recording start lent values =
+    let setup = setupOf system edition in (
+      panelCallRefusal setup recording start lent values,
+      (panelCallLinesExit setup recording start lent values, panelCallValuesExit setup recording start lent values),
+    )
+
+panels-worked :
+    Alike
+    -- 102 before 1 before 19 before 2 before 4 before 3
+    ((panelFor 11 2 [] 0 (replicate 12 8) (replicate 39 7), (102, (replicate 12 8, replicate 39 7))) ∷
+    (panelFor 11 2 [] 0 (replicate 12 8) (replicate 41 7), (102, (replicate 12 8, replicate 41 7))) ∷
+    (panelFor 11 2 [] 0 (replicate 12 8) (replicate 40 7), (1, (replicate 12 8, replicate 40 7))) ∷
+    (panelFor 10 2 [] 0 (replicate 12 8) (replicate 40 7), (19, (replicate 12 8, replicate 40 7))) ∷
+    (panelFor 10 1 (replicate 2048 (pos 131072)) 1 (replicate 12 8) (replicate 40 7), (2, (replicate 12 8, replicate 40 7))) ∷
+    (panelFor 12 0 (replicate 2048 (pos 131072)) 0 (replicate 12 8) (replicate 40 7), (4, (replicate 12 8, replicate 40 7))) ∷
+    (panelFor 12 0 (replicate 2048 (pos 131072)) 0 (replicate 14 8) (replicate 40 7), (4, (replicate 14 8, replicate 40 7))) ∷
+    (panelFor 12 0 (replicate 2048 (pos 131072)) 0 (replicate 13 8) (replicate 40 7), (3, (replicate 13 8, replicate 40 7))) ∷
+    [])
+unfolding Alike panelFor panelCallRefusal panelCallLinesExit panelCallValuesExit panelRefusal isSystem isEdition windowAt outOfRange anyOf
+panels-worked = refl
 
 -- ---- kifsang_fresh_record
 

@@ -52,6 +52,7 @@ use Rattle.accuracy.proofs.Demand3.{demand3}
 use Rattle.record_words.specs.Words.{wordsOf}
 use Rattle.exported_windows.specs.Kinds.{kinds, kindWith}
 use Rattle.exported_windows.specs.GroupCalls.{groupCallRefusal, groupCallExit, rowCallRefusal, rowCallExit}
+use Rattle.exported_windows.specs.PanelCall.{panelCallRefusal, panelCallValuesExit}
 use Rattle.exported_windows.specs.ObserveCall.{observeCallRefusal, observeCallExit}
 use Rattle.exported_records.specs.ThreeSecondCall.{threeSecondCallRefusal, threeSecondCallExit}
 use Rattle.exported_records.specs.VerdictCall.{verdictNumber, verdictCallRefusal, verdictCallExit}
@@ -124,6 +125,22 @@ called-row-worked :
 unfolding kindWith kinds
 called-row-worked recording start buffer setup before taken asked =
     exported-demand3 .rows recording start buffer 1 setup before taken asked .values
+
+-- the values that kifsang_panel_row leaves are these too, each at most 7 units from the exact group
+called-panel-worked :
+    (recording : List ℤ) (start : ℕ) (setup : Setup) (lines before : List ℕ) →
+    panelCallRefusal setup recording start lines before ≡ 0 →
+    (panelCallValuesExit setup recording start lines before ≡ groupValues HarmonicGroup setup (linesOf (windowAt recording start))) ×
+    ((order : ℕ) → 1 ≤ order → order ≤ 40 →
+    Within7 (getD (panelCallValuesExit setup recording start lines before) (order - 1) 0) (exactGroup HarmonicGroup setup order (windowAt recording start)))
+unfolding whole square
+called-panel-worked recording start setup lines before asked =
+    let panel = exported-demand3 .panels recording start setup lines before asked in (
+      panel .worked .values,
+      λ order least most.
+          let near = panel .near order least most in
+          (omega (arith, near .not-far-below), omega (arith, near .not-far-above)),
+    )
 
 -- ---- the setup
 

@@ -2,4 +2,5 @@
 pub mod Worked
 pub mod Figures
 pub mod GlitchFigures
+pub mod PanelFigures
 pub mod ExportedCalls

@@ -61,7 +61,7 @@ unfolding pulse Pulse.pulse
 pulse-in-range = record { whole-window = refl; samples = Pulse.pulse-in-range }
 
 -- the pulse's value of a kind at an order, from the root of a sum over lines that are all alike
-pulse-group :
+pub pulse-group :
     (kind : Kind) (setup : Setup) (order value : ℕ) → isSetup setup ≡ true →
     valueOver (weightsOf kind setup order) (λ k. 4000000) ≡ value →
     isOrder order ≡ true → groupAnswer kind setup order (linesOf pulse) ≡ answer noRefusal value

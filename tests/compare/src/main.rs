@@ -1,10 +1,10 @@
 //! Compares the proved core, through its C interface, with the second program of `tests/reference`,
-//! call by call: spectra and parts of them, all kinds, orders, systems and editions, distortion, records,
-//! windows back to back, limits, verdicts, three-second values, columns and listings, on valid and on
-//! damaged arguments. Every buffer is compared after every call, refused ones too; the numbers that the
-//! wrappers' names stand for are compared with figures first. With the path of the built `harmlist` as its
-//! argument it compares that program instead, byte for byte. The seed is fixed, so that a run can be
-//! repeated.
+//! call by call: spectra and parts of them, all kinds, orders, systems and editions, the panel's rows,
+//! distortion, records, windows back to back, limits, verdicts, three-second values, columns and listings,
+//! on valid and on damaged arguments. Every buffer is compared after every call, refused ones too; the
+//! numbers that the wrappers' names stand for are compared with figures first. With the path of the built
+//! `harmlist` as its argument it compares that program instead, byte for byte. The seed is fixed, so that a
+//! run can be repeated.
 
 mod columns;
 mod examples;
@@ -12,6 +12,7 @@ mod harmlist;
 mod limits;
 mod names;
 mod observations;
+mod panel;
 mod records;
 mod three_seconds;
 mod windows;

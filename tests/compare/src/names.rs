@@ -39,6 +39,7 @@ pub fn compare() {
         WINDOW_LENGTH 2048
         LINE_COUNT 512
         LINE_LIMIT 1024
+        PANEL_LINES 13
         ORDER_COUNT 40
         UNITS_PER_COUNT 4096
         LARGEST_SAMPLE 131071

@@ -1,5 +1,6 @@
 //! The record after windows back to back, in one call and by the calls one by one.
 
+use crate::panel;
 use crate::windows::KINDS;
 use crate::{numbers, setup, system_and_edition, Tally, EDITIONS};
 use kifsang::{Refusal, LINE_COUNT, MOST_WINDOWS, ORDER_COUNT, RECORD_WORDS, WINDOW_LENGTH};
@@ -117,6 +118,10 @@ pub fn compare(tally: &mut Tally, seed: u64) {
     recording.extend([i32::MAX; 3]);
     for count in [0, 1, 2, 3, windows] {
         compare_kinds(tally, &recording, start, count);
+    }
+    for window in 0..=windows {
+        let place = start + window * WINDOW_LENGTH;
+        panel::compare_window(tally, "windows back to back", &recording, place);
     }
 
     // A bad sample in each window, first, last and between; windows are taken up to it, and one that is

@@ -1,6 +1,7 @@
 //! Three-second values after long lists of add row calls, refused ones among them. What they must be is worked
 //! afresh from the last 15 accepted rows, which are kept here as a plain list, and not from a record.
 
+use crate::panel;
 use crate::records::{compare_add_row, compare_three_second_values, random_row, row_setup};
 use crate::{system_and_edition, Tally};
 use kifsang::{Refusal, LATEST_PLACE, ORDER_COUNT, RECORD_WORDS, THREE_SECOND_WINDOWS};
@@ -130,11 +131,14 @@ fn compare_plain_lists(tally: &mut Tally) {
     }
 }
 
-/// Rows from samples, an appliance in each window.
+/// Rows from samples, an appliance in each window; the panel's rows of these windows.
 fn compare_sampled_list(tally: &mut Tally, random: &mut Random) {
     let setup = Setup::edition_2(10);
     let mut list = List::begin(tally, setup);
     let sources = appliances(WINDOW_LENGTH, setup.system, random.bits());
+    for signal in &sources {
+        panel::compare_window(tally, &signal.name, &signal.samples, 0);
+    }
     for signal in sources.iter().cycle().take(40) {
         let lines = lines_of(&signal.samples, 0).expect("samples in range");
         let row = group_row(Kind::HarmonicGroup, setup, &lines).expect("lines in range");

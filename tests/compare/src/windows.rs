@@ -1,5 +1,6 @@
-//! Spectra, groups and distortion.
+//! Spectra, groups, the panel's rows and distortion.
 
+use crate::panel;
 use crate::{numbers, setup, system_and_edition, Tally, EDITIONS};
 use kifsang::{LINE_COUNT, LINE_LIMIT, ORDER_COUNT, WINDOW_LENGTH};
 use reference::annex_c::{comparison, own_spectrum, Agreement};
@@ -18,7 +19,8 @@ pub const KINDS: [kifsang::Kind; 5] = [
     kifsang::Kind::InterharmonicCentredSubgroup,
 ];
 
-/// One spectrum call on both sides, with all that the buffers hold after it.
+/// One spectrum call on both sides, with all that the buffers hold after it, and the panel's rows of its
+/// window.
 fn compare_spectrum(tally: &mut Tally, name: &str, recording: &[i32], start: usize, room: usize) {
     let mut core = vec![0xABCD; room];
     let mut other = core.clone();
@@ -31,6 +33,9 @@ fn compare_spectrum(tally: &mut Tally, name: &str, recording: &[i32], start: usi
         expected,
     );
     tally.same(&format!("lines of {name} from {start}"), core, other);
+    if room == LINE_COUNT {
+        panel::compare_window(tally, name, recording, start);
+    }
 }
 
 /// One call for a part of the lines on both sides, with all that the buffers hold after it.
@@ -51,7 +56,7 @@ fn compare_lines_from(
     tally.same(&what, core, other);
 }
 
-/// All lines of a window, and parts of them at every place.
+/// All lines of a window, and parts of them at every place; the panel's rows of it.
 fn compare_line_parts(tally: &mut Tally, name: &str, window: &[i32]) {
     let part = |first, count| {
         let mut lines = vec![0xABCD; count];
@@ -71,6 +76,7 @@ fn compare_line_parts(tally: &mut Tally, name: &str, window: &[i32]) {
     let mut spectrum = vec![0; LINE_COUNT];
     kifsang::spectrum(window, 0, &mut spectrum).expect("a window in range");
     tally.same("the spectrum", &spectrum[..], &all[..LINE_COUNT]);
+    panel::compare_window(tally, name, window, 0);
 }
 
 /// Parts that are refused: each fault alone and each two of them, and the edges beside them.
@@ -200,6 +206,7 @@ fn compare_annex_c(tally: &mut Tally) {
         let mut tally = tally.borrow_mut();
         tally.same("lines of annex C", lines, own_spectrum(samples));
         compare_groups(&mut tally, "annex C", &lines);
+        panel::compare_window(&mut tally, "annex C", samples, 0);
         lines
     };
     let figures = comparison(&by_core);
@@ -282,6 +289,7 @@ pub fn compare(tally: &mut Tally, seed: u64) {
     compare_line_refusals(tally, random.bits());
 
     compare_group_refusals(tally);
+    panel::compare_refusals(tally, seed);
     for _ in 0..2000 {
         let bits = 1 + random.below(32);
         let mut row = [0; ORDER_COUNT];

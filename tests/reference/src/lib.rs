@@ -18,6 +18,7 @@ pub mod listing;
 pub mod natural;
 pub mod observation;
 pub mod observe;
+pub mod panel;
 pub mod random;
 pub mod refusals;
 pub mod rounding;

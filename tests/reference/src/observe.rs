@@ -6,7 +6,7 @@ use crate::groups::{Kind, group_row};
 use crate::observation::{Observation, add_row, fresh_record};
 use crate::refusals::Refusal;
 use crate::rows::{Row, Setup};
-use crate::spectrum::{LINE_COUNT, WINDOW_LENGTH, lines_of, window_at};
+use crate::spectrum::{LastWindow, WINDOW_LENGTH, window_at};
 
 /// An observation under way: the record after some windows, and the last of
 /// them with its lines.
@@ -14,32 +14,24 @@ pub struct Observing {
     /// The record after the windows so far.
     pub observation: Observation,
     kind: Kind,
-    window: Vec<i32>,
-    lines: [u64; LINE_COUNT],
+    last: LastWindow,
 }
 
 impl Observing {
     /// No window yet. Refused in this order: 1, 19.
     pub fn begin(setup: Setup, kind: Kind) -> Result<Observing, Refusal> {
         let (observation, refusal) = fresh_record(setup);
-        let (window, lines) = (Vec::new(), [0; LINE_COUNT]);
-        refusal.map_or(Ok(Observing { observation, kind, window, lines }), Err)
+        refusal.map_or(Ok(Observing { observation, kind, last: LastWindow::none() }), Err)
     }
 
     /// The last window's row of a kind, under the record's setup.
     pub fn row(&self, kind: Kind) -> Result<Row, Refusal> {
-        group_row(kind, self.observation.setup, &self.lines)
+        group_row(kind, self.observation.setup, self.last.lines())
     }
 
-    /// Takes the window that begins at `start`. Refused in this order: 2, 3, 9. A
-    /// window equal to the one before it has that one's lines, which are then not
-    /// worked out again.
+    /// Takes the window that begins at `start`. Refused in this order: 2, 3, 9.
     pub fn take(&mut self, recording: &[i32], start: usize) -> Result<(), Refusal> {
-        let window = window_at(recording, start)?;
-        if window != self.window {
-            self.lines = lines_of(window, 0)?;
-            self.window = window.to_vec();
-        }
+        self.last.lines_of(window_at(recording, start)?)?;
         let (observation, refusal) = add_row(self.observation.clone(), &self.row(self.kind)?);
         self.observation = observation;
         refusal.map_or(Ok(()), Err)

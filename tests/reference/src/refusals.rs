@@ -11,7 +11,8 @@ pub enum Refusal {
     ShortWindow = 2,
     /// A sample lies outside −131,071..131,071.
     SampleOutOfRange = 3,
-    /// The buffer of lines does not hold 512.
+    /// The buffer of lines does not hold 512, 13 for the panel's row (document 02, card
+    /// 6), or reaches past line 1,023.
     WrongLineCount = 4,
     /// A line is above 2^59.
     LineTooLarge = 5,

@@ -88,3 +88,31 @@ pub fn lines_of(recording: &[i32], start: usize) -> Result<[u64; LINE_COUNT], Re
     spectrum(recording, start, &mut lines)?;
     Ok(lines)
 }
+
+/// The last window whose lines were asked for, with its lines: where the next is equal,
+/// these are not worked out again.
+pub struct LastWindow {
+    window: Vec<i32>,
+    lines: [u64; LINE_COUNT],
+}
+
+impl LastWindow {
+    /// No window yet.
+    pub fn none() -> LastWindow {
+        LastWindow { window: Vec::new(), lines: [0; LINE_COUNT] }
+    }
+
+    /// The lines of the last window.
+    pub fn lines(&self) -> &[u64; LINE_COUNT] {
+        &self.lines
+    }
+
+    /// The lines of a window, which is then the last. Refused: 3.
+    pub fn lines_of(&mut self, window: &[i32]) -> Result<&[u64; LINE_COUNT], Refusal> {
+        if window != self.window {
+            self.lines = lines_of(window, 0)?;
+            self.window = window.to_vec();
+        }
+        Ok(&self.lines)
+    }
+}

@@ -12,6 +12,7 @@ use crate::listing::{LISTING_ROOM, fill_listing};
 use crate::observation::{MOST_WINDOWS, Observation, THREE_SECOND_WINDOWS};
 use crate::observation::{add_row, fresh_record};
 use crate::observe::observe;
+use crate::panel::{PANEL_LINES, Panel};
 use crate::random::Random;
 use crate::refusals::{Refusal, number_or_zero};
 use crate::rows::{EDITION_2, EDITION_A1, LARGEST_VALUE, ORDER_COUNT, Row, SYSTEMS, Setup};
@@ -48,6 +49,7 @@ fn setups(systems: &[u64], editions: &[u64]) -> Vec<Setup> {
 /// The printer of the lines.
 struct Printer<W: Write> {
     output: W,
+    panel: Panel,
 }
 
 impl<W: Write> Printer<W> {
@@ -71,8 +73,8 @@ impl<W: Write> Printer<W> {
         self.line::<A, A>(word, numbers, &[])
     }
 
-    /// The spectrum of the window at `start`, and the five kinds at both systems
-    /// under both editions.
+    /// The spectrum of the window at `start`, the five kinds at both systems under
+    /// both editions, and the panel's rows.
     fn spectrum_case(&mut self, signal: &Signal, start: usize, line_count: usize) -> Result<()> {
         let mut lines = vec![0; line_count];
         let refusal = number_or_zero(&spectrum(&signal.samples, start, &mut lines));
@@ -89,7 +91,31 @@ impl<W: Write> Printer<W> {
                 }
             }
         }
+        for setup in Setup::ALL {
+            self.panel_case(&signal.samples, start, setup, PANEL_LINES)?;
+        }
         Ok(())
+    }
+
+    /// The panel's row of a window of the last recording, with what its buffer of lines
+    /// holds after the call.
+    fn panel_case(
+        &mut self,
+        recording: &[i32],
+        start: usize,
+        setup: Setup,
+        line_count: usize,
+    ) -> Result<()> {
+        let mut lines = vec![UNTOUCHED.into(); line_count];
+        let (row, refusal) = self.panel.row(recording, start, setup, &mut lines);
+        let answer = match refusal {
+            None => [&row.values.map(u64::from)[..], &lines].concat(),
+            Some(_) => Vec::new(),
+        };
+        let refusal = refusal.map_or(0, Refusal::number).into();
+        let Setup { system, edition } = setup;
+        let asked = [start as u64, system, edition, line_count as u64, refusal];
+        self.line("panel_row", &asked, &answer)
     }
 
     /// Lines of the last recording, the buffer's first line being `first`.
@@ -840,6 +866,40 @@ fn print_three_seconds<W: Write>(
     print_kept_words(printer, random)
 }
 
+/// The panel's row (document 02, card 6) of tones on and beside the edges of the first
+/// two groups and of the last, and its refusals: each fault alone and each two or more of
+/// them. The sample before the window is out of range.
+fn print_panel_rows<W: Write>(printer: &mut Printer<W>) -> Result<()> {
+    for system in SYSTEMS {
+        for order in [1, 2, ORDER_COUNT as u64] {
+            let (first, last) = (system * order - system / 2, system * order + system / 2);
+            for line in [first - 1, first, last, last + 1] {
+                let signal = tone(WINDOW_LENGTH, line as f64, 131_071.0, 0.1);
+                printer.comment(&signal.name)?;
+                printer.numbers("recording", &signal.samples)?;
+                for setup in setups(&[system], &[EDITION_2, EDITION_A1]) {
+                    printer.panel_case(&signal.samples, 0, setup, PANEL_LINES)?;
+                }
+            }
+        }
+    }
+    for sample in [LARGEST_SAMPLE, LARGEST_SAMPLE + 1] {
+        let mut recording = square_wave(WINDOW_LENGTH + 1, 50.0).samples;
+        recording[0] = i32::MIN;
+        recording[WINDOW_LENGTH] = sample;
+        printer.comment("refusals of the panel's row and their order")?;
+        printer.numbers("recording", &recording)?;
+        for setup in setups(&[10, 12, 0, 11], &EDITIONS) {
+            for start in [1, 0, 2, usize::MAX] {
+                for line_count in [PANEL_LINES, 0, 11, 12, 14, LINE_COUNT] {
+                    printer.panel_case(&recording, start, setup, line_count)?;
+                }
+            }
+        }
+    }
+    Ok(())
+}
+
 /// Texts that are a column or nearly one.
 fn print_columns<W: Write>(printer: &mut Printer<W>, random: &mut Random) -> Result<()> {
     let texts: [&[u8]; 24] = [
@@ -922,7 +982,7 @@ fn print_listings<W: Write>(printer: &mut Printer<W>, random: &mut Random) -> Re
 
 /// Prints all cases; those that are made at random follow the seed.
 pub fn print_vectors(seed: u64, output: impl Write) -> Result<()> {
-    let printer = &mut Printer { output };
+    let printer = &mut Printer { output, panel: Panel::begin() };
     let random = &mut Random::new(seed);
     for signal in plain_windows().into_iter().chain(seeded_windows(seed)) {
         printer.spectrum_case(&signal, 0, LINE_COUNT)?;
@@ -953,5 +1013,6 @@ pub fn print_vectors(seed: u64, output: impl Write) -> Result<()> {
     print_other_letters(printer)?;
     print_edition_a1(printer, random)?;
     print_setups(printer)?;
-    print_three_seconds(printer, random, seed)
+    print_three_seconds(printer, random, seed)?;
+    print_panel_rows(printer)
 }

@@ -1,14 +1,16 @@
-//! Nothing of before changes. All that stood among the test cases before a record kept
-//! its latest rows (document 02, card 8) stands there still, in the same order; without
-//! the words of these rows it is byte for byte what it was. Of these lines, all that
-//! stood there before there was an edition is under edition 2 (card 7: the others, and
-//! all under edition 2, "as now"); without the edition it is what it was. "A class A user
-//! sees the verdicts of before" (card 1): of those, the limits and verdicts that stood
-//! there before there was a class letter are the first, with the letter A; without it
-//! they are what they were.
+//! Nothing of before changes. All that stood among the test cases before there was a
+//! panel's row (document 02, card 6) stands there still, in the same order, byte for byte
+//! as it was. Of these lines, all that stood there before a record kept its latest rows
+//! (card 8) come first; without the words of these rows it is what it was. Of these, all
+//! that stood there before there was an edition is under edition 2 (card 7: the others,
+//! and all under edition 2, "as now"); without the edition it is what it was. "A class A
+//! user sees the verdicts of before" (card 1): of those, the limits and verdicts that
+//! stood there before there was a class letter are the first, with the letter A; without
+//! it they are what they were.
 
 use reference::vectors::print_vectors;
 use reference::words::{LATEST_PLACE, RECORD_WORDS};
+use std::sync::LazyLock;
 
 /// How many lines, and the 64-bit FNV-1a digest of their bytes, each line with its
 /// newline.
@@ -18,7 +20,9 @@ struct Digest {
     digest: u64,
 }
 
-/// Of all lines but comments that `reference vectors 1` printed before card 8.
+/// Of all lines but comments that `reference vectors 1` printed before card 6.
+const WITHOUT_PANEL: Digest = Digest { lines: 38_411, digest: 0x6009_1828_6e26_340e };
+/// Of those that it printed before card 8.
 const WITHOUT_LATEST: Digest = Digest { lines: 28_145, digest: 0xf5ce_c8ae_1b50_87d6 };
 /// Of those that it printed before card 7.
 const WITHOUT_EDITION: Digest = Digest { lines: 18_266, digest: 0x2c7e_1dad_195f_01c2 };
@@ -71,13 +75,18 @@ fn without_latest(line: &str) -> String {
     format!("record {LATEST_PLACE} {}", numbers[..LATEST_PLACE].join(" "))
 }
 
-/// The lines of before card 8, without the latest rows.
-fn lines_without_latest() -> Vec<String> {
+/// The lines of before card 6, which are those of other calls than the panel's row.
+static LINES_WITHOUT_PANEL: LazyLock<Vec<String>> = LazyLock::new(|| {
     let mut output = Vec::new();
     print_vectors(1, &mut output).unwrap();
     let text = String::from_utf8(output).unwrap();
-    let lines = text.lines().filter(|line| !line.starts_with('#'));
-    lines.map(without_latest).take(WITHOUT_LATEST.lines).collect()
+    let is_before = |line: &&str| !line.starts_with('#') && word_of(line) != "panel_row";
+    text.lines().filter(is_before).take(WITHOUT_PANEL.lines).map(str::to_string).collect()
+});
+
+/// Of these the lines of before card 8, without the latest rows.
+fn lines_without_latest() -> Vec<String> {
+    LINES_WITHOUT_PANEL.iter().take(WITHOUT_LATEST.lines).map(|line| without_latest(line)).collect()
 }
 
 /// Of these the lines of before card 7, without their edition. A line with another
@@ -97,6 +106,11 @@ fn lines_without_edition() -> Vec<String> {
     }
     lines.truncate(WITHOUT_EDITION.lines);
     lines
+}
+
+#[test]
+fn but_for_the_panel_all_is_as_before() {
+    assert_eq!(digest_of(&LINES_WITHOUT_PANEL), WITHOUT_PANEL);
 }
 
 #[test]

@@ -11,6 +11,7 @@ use reference::limits::order_limit;
 use reference::listing::fill_listing;
 use reference::observation::{MOST_WINDOWS, Observation, add_row, fresh_record};
 use reference::observe::observe;
+use reference::panel::{PANEL_LINES, panel_row};
 use reference::refusals::{Refusal, number_or_zero};
 use reference::rows::{Row, Setup};
 use reference::spectrum::{LARGEST_LINE, WINDOW_LENGTH, lines_from, spectrum};
@@ -79,6 +80,7 @@ struct Arguments {
     windows: usize,
     first: usize,
     lines: Vec<u64>,
+    panel: Vec<u64>,
     values: [u32; 40],
     record: Observation,
     text: Vec<u8>,
@@ -100,6 +102,7 @@ fn good() -> Arguments {
         windows: 2,
         first: 512,
         lines: vec![LARGEST_LINE; 512],
+        panel: vec![u64::MAX; PANEL_LINES],
         values: [1; 40],
         record: Observation { windows: MOST_WINDOWS - 1, ..fresh_record(Setup::edition_2(10)).0 },
         text: b"      -7".to_vec(),
@@ -180,6 +183,13 @@ fn trials() -> Vec<Trial> {
     let buffers: [Fault; 2] =
         [(4, buffer, |a| a.lines.truncate(511)), (4, buffer, |a| a.lines.resize(513, 0))];
     let past = "buffer reaches past line 1,023";
+    let panel = "buffer not 13 lines";
+    let panels: [Fault; 4] = [
+        (4, panel, |a| a.panel.clear()),
+        (4, panel, |a| a.panel.truncate(12)),
+        (4, panel, |a| a.panel.resize(14, 0)),
+        (4, panel, |a| a.panel.resize(512, 0)),
+    ];
     let count = "not 512 lines";
     let large = "any of the 512 above 2^59";
     let lines: [Fault; 4] = [
@@ -239,6 +249,7 @@ fn trials() -> Vec<Trial> {
         faults: faults.concat(),
     };
     let added = |faults: &[&[Fault]]| trial("add row", "the record unchanged", run_add_row, faults);
+    let row_of_zeros = "a row of zeros, system 10, edition 0";
     let zeros = "a record of zeros, system 10, edition 0";
     let observed = |faults: &[&[Fault]]| trial("observe", zeros, run_observe, faults);
     let listed = |faults: &[Fault]| {
@@ -269,9 +280,15 @@ fn trials() -> Vec<Trial> {
         ),
         trial(
             "row",
-            "a row of zeros, system 10, edition 0",
+            row_of_zeros,
             |a| number_or_zero(&group_row(Kind::HarmonicGroup, a.setup, &a.lines)),
             &[&setups, &lines],
+        ),
+        trial(
+            "panel row",
+            row_of_zeros,
+            |a| refusal_number(panel_row(&a.recording, a.start, a.setup, &mut a.panel).1),
+            &[&setups, &short_windows, &panels, &samples],
         ),
         trial(
             "distortion",

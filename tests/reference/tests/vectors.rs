@@ -27,9 +27,10 @@ fn every_refusal_of_a_call_comes_and_both_editions_are_taken() {
     let text = vectors(3);
     // The call, the place of its edition if it has one, that of its refusal, and its
     // refusals. The 9 of `observe` needs 45,001 windows.
-    let calls: [(&str, Option<usize>, usize, &[&str]); 8] = [
+    let calls: [(&str, Option<usize>, usize, &[&str]); 9] = [
         ("spectrum", None, 2, &["2", "3", "4"]),
         ("group_value", Some(2), 4, &["1", "19", "4", "5", "6"]),
+        ("panel_row", Some(2), 4, &["1", "19", "2", "3", "4"]),
         ("fresh_record", Some(1), 2, &["1", "19"]),
         ("add_row", Some(2), 0, &["1", "19", "7", "8", "9"]),
         ("observe", Some(3), 5, &["1", "19", "2", "3"]),

@@ -11,8 +11,8 @@ use lib.IntN.{ℤ}
 use lib.ListN.{length}
 use Rattle.refusals.proofs.Answers.{unlessRefused-same}
 use Rattle.spectrum.specs.Line.{lineCount, linesOf}
-use Rattle.spectrum.specs.Spectrum.{spectrumRefusal, spectrumExit}
-use Rattle.spectrum.specs.Prepared.{windowRefusal, windowExit}
+use Rattle.spectrum.specs.Spectrum.{windowRefusal, spectrumRefusal, spectrumExit}
+use Rattle.spectrum.specs.Prepared.{windowExit}
 use Rattle.spectrum.proofs.Accepted.{accepted}
 use Rattle.spectrum.proofs.spectrum.Statement.{statement}
 use Rattle.spectrum.proofs.spectrum.Tie as tie

@@ -1,29 +1,19 @@
 -- `exported_windows::group_calls::kifsang_row` meets its contract: the own checks, or the library's values as they are received.
 use mathlib.Core.Path.{_≡_, sym, _∙_}
-use mathlib.Core.List.{List}
-use Prim.Native.Nat.{ℕ}
 use native.Mathlib.Omega.{arith}
 use borrow.Author.Needs.{needs}
-use lib.ListN.{length}
-use Rattle.algebra.proofs.Lists.{length-tabulate}
 use Rattle.refusals.specs.Numbers.{noRefusal}
 use Rattle.refusals.proofs.Answers.{no-fault}
 use Rattle.rows.specs.Orders.{orderCount}
 use Rattle.rows.specs.Setups.{setupOf}
-use Rattle.rows.specs.declared.Setup.{Setup}
 use Rattle.exported_answers.proofs.LentWords.{wordsFrom-whole}
 use Rattle.groups.specs.Group.{groupValues, groupRowAnswer}
-use Rattle.groups.specs.declared.Kind.{Kind}
-use Rattle.groups.proofs.GroupSum.{groupRowAnswer-values}
+use Rattle.groups.proofs.GroupSum.{groupValues-length, groupRowAnswer-values}
 use Rattle.exported_windows.specs.Kinds.{unknownKind, kindWith, kindCheck}
 use Rattle.exported_windows.specs.GroupCalls.{rowCallRefusal, rowCallExit}
 use Rattle.exported_answers.proofs.Handed.{own-refused, count-passed}
 use Rattle.exported_windows.proofs.group_calls.kifsang_row.Statement.{statement}
 use Rattle.exported_windows.proofs.group_calls.kifsang_row.Tie as tie
-
-groupValues-length : (kind : Kind) (setup : Setup) (lines : List ℕ) → length (groupValues kind setup lines) ≡ orderCount
-unfolding groupValues
-groupValues-length kind setup lines = length-tabulate orderCount _
 
 returns : tie.Need-returns
 unfolding rowCallRefusal rowCallExit

@@ -19,19 +19,10 @@ use Rattle.sine.specs.Wave.{tableSine, tableCosine}
 use Rattle.sine.proofs.Wave.{tableSine-le, tableCosine-le}
 use Rattle.spectrum.specs.Line.{lineSum, sumScale, roundedSum, lineOf}
 use Rattle.spectrum.specs.Folding.{heldBy, foldedWindow, placeSum, cosineOf, EndsAt}
-use Rattle.spectrum.proofs.Bounds.{lineSum-le, line-le}
+use Rattle.spectrum.proofs.Bounds.{lineSum-le, line-le, read-back, squared}
 use Rattle.spectrum.proofs.FoldedLines.{ahead, half-le, sine-sum-small, cosine-is, sine-is, line-0-sum, line-0-is}
 use Rattle.spectrum.proofs.sums.line.Statement.{statement}
 use Rattle.spectrum.proofs.sums.line.Tie as tie
-
--- a number that is a sum below 2^58 is read back from its bits as it was
-read-back : (number sum : ℤ) → number ≡ sum → natAbs sum < 2 ^ 58 → toZ w64 (ofZ w64 number) ≡ number
-read-back number sum e small = toZ-ofZ w64 number (sfits-natAbs w64 number (rw e (omega (arith, small))))
-
--- the square of a rounded sum
-squared : (wave : ℕ → ℤ) (window : List ℤ) (k result : ℕ) (number : ℤ) → result ≡ square (nearestℤ number sumScale) → number ≡ lineSum wave window k → result ≡ square (roundedSum wave window k)
-unfolding roundedSum
-squared wave window k result number r e = r ∙ ap (λ z. square (nearestℤ z sumScale)) e
 
 -- ---- line 0
 

@@ -1,0 +1,42 @@
+-- `groups::panel::panel_span` meets its contract: the group that is taken does not begin before the harmonic group.
+use mathlib.Core.Path.{_≡_, ap, _∙_}
+use native.Mathlib.Omega.{arith}
+use borrow.Author.Needs.{needs}
+use Rattle.rows.proofs.Setups.{setup-parts}
+use Rattle.groups.specs.declared.Kind.{Kind}
+use Rattle.groups.specs.declared.Kind.the-variants.{HarmonicGroup}
+use Rattle.groups.specs.Spans.{spanOf, groupSpan}
+use Rattle.groups.specs.Panel.{panelSpan}
+use Rattle.groups.proofs.PanelLines.{within}
+use Rattle.groups.proofs.panel.panel_span.Statement.{statement}
+use Rattle.groups.proofs.panel.panel_span.Tie as tie
+
+module _ (c : tie.After-span-of) where
+  abbrev start : tie.Start
+  start = c .before .before
+
+  the-span : c .span-of .result ≡ groupSpan HarmonicGroup (start .args .setup) (start .args .order)
+  the-span =
+      c .span-of .ensures
+      ∙ ap (λ (kind : Kind). spanOf kind (start .args .setup .system) (start .args .order)) (c .before .grouped-as .ensures)
+
+sub-t7 : tie.Need-sub-t7
+sub-t7 c =
+    let spanned = c .before .before in
+    let s = start spanned in
+    let inside = within (s .args .setup) (s .args .order) (s .pre .0) (s .pre .1) in
+    rw (the-span spanned, c .before .first-line .ensures) (inside .from)
+
+returns : tie.Need-returns
+unfolding panelSpan
+returns c = rw (the-span (c .before .before), c .before .first-line .ensures)
+
+pub panel-span-spec : {M : Type 1} → statement M
+panel-span-spec =
+    tie.close
+    (tie.spec
+    (λ c κs. search needs)
+    (λ c κs. (setup-parts _ (c .before .pre .0) .system-known, c .before .pre .1))
+    (λ c κs. start c .pre)
+    sub-t7
+    returns)
