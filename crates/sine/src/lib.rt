@@ -562,15 +562,15 @@ pub fn turn_index(index: usize) -> usize
     index & TURN_MASK
 }
 
-// The wave at any index, made of any lent quarter: of the table's, the table's sine.
+// The wave at any index, made of any lent quarter: of the table's, the table's sine. The height is looked up before its sign is known, so that nothing is jumped over.
 pub fn wave_at(quarter: &[u32; QUARTER_TURN + 1], index: usize) -> i64
     ensures { λ r. ⌜ r ≡ overTurn (heightIn (now (quarter .entry))) index ⌝ }
 {
-    let at = turn_index(index);
-    if at < HALF_TURN {
-        half_wave(quarter, at) as i64
+    let height = half_wave(quarter, index % HALF_TURN) as i64;
+    if turn_index(index) < HALF_TURN {
+        height
     } else {
-        -(half_wave(quarter, at - HALF_TURN) as i64)
+        -height
     }
 }
 
