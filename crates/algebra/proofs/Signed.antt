@@ -24,6 +24,10 @@ pub natAbs-sfits : (w : Width) (z : ℤ) → SFits w z → natAbs z ≤ 2 ^ hbit
 natAbs-sfits w (pos n) f = le-of-lt (f .sfits)
 natAbs-sfits w (negsuc n) f = f .sfits
 
+-- a number that is known, and has that many bits, is read back from its bits as it was
+pub read-as : (w : Width) (number known : ℤ) → number ≡ known → natAbs known < 2 ^ hbits w → toZ w (ofZ w number) ≡ known
+read-as w number known same small = toZ-ofZ w number (sfits-natAbs w number (rw same small)) ∙ same
+
 -- 32 bits widened to 64 are the same number
 pub widened : (z : ℤ) → SFits w32 z → toZ w64 (ofZ w64 (toZ w32 (ofZ w32 z))) ≡ z
 widened z f = ap (λ y. toZ w64 (ofZ w64 y)) (toZ-ofZ w32 z f) ∙ toZ-ofZ w64 z (sfits-widen tt f)

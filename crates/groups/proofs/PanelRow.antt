@@ -2,16 +2,16 @@
 -- `group_row` for the harmonic group are, and answers then what they do.
 use mathlib.Core.Bool.{false, not}
 use mathlib.Core.List.{List}
-use mathlib.Core.Path.{_≡_, refl, ap, _∙_}
+use mathlib.Core.Path.{_≡_, refl, ap}
 use Prim.Native.Nat.{ℕ}
-use borrow.Author.Tests.{eq-eqb, not-false}
+use borrow.Author.Tests.{eq-eqb}
 use lib.Dec.{eqb}
 use lib.IntN.{ℤ}
 use lib.ListN.{length}
 use Rattle.refusals.specs.Numbers.{noRefusal, unknownSystem, unknownEdition}
 use Rattle.refusals.proofs.Answers.{no-faults}
 use Rattle.rows.specs.declared.Setup.{Setup}
-use Rattle.spectrum.specs.Line.{lineCount, windowAt, linesOf}
+use Rattle.spectrum.specs.Line.{lineCount, windowAt}
 use Rattle.spectrum.specs.Spectrum.{windowRefusal, spectrumRefusal, spectrumExit}
 use Rattle.spectrum.proofs.Accepted.{window-again}
 use Rattle.groups.specs.declared.Kind.the-variants.{HarmonicGroup}

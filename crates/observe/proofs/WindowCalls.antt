@@ -4,19 +4,15 @@ use mathlib.Core.Bool.{Bool, true, false}
 use mathlib.Core.List.{List, [], _∷_}
 use Prim.Native.Nat.{ℕ}
 use native.Mathlib.Omega.{arith}
-use borrow.Author.Tests.{eq-eqb}
 use lib.IntN.{ℤ}
-use lib.ListN.{length}
 use Rattle.refusals.specs.Numbers.{noRefusal, shortWindow, sampleOutOfRange}
 use Rattle.refusals.specs.Answers.{firstFault}
 use Rattle.rows.specs.Setups.{isSetup}
 use Rattle.rows.specs.declared.Setup.{Setup}
-use Rattle.rows.proofs.Setups.{setup-parts}
 use Rattle.rows.specs.Rows.{refusedRow}
 use Rattle.rows.specs.declared.Row.{Row}
-use Rattle.spectrum.specs.Line.{lineCount, windowAt, linesOf}
+use Rattle.spectrum.specs.Line.{windowAt}
 use Rattle.spectrum.specs.Spectrum.{shortCheck, rangeCheck, spectrumRefusal, spectrumExit}
-use Rattle.spectrum.proofs.Lines.{length-linesOf, no-line-too-large}
 use Rattle.groups.specs.declared.Kind.{Kind}
 use Rattle.groups.proofs.GroupSum.{windowRow-setup, windowRow-accepted}
 use Rattle.observation.specs.declared.Observation.{Observation}
@@ -24,7 +20,7 @@ use Rattle.observation.specs.declared.RecordAnswer.{RecordAnswer}
 use Rattle.observation.specs.Soundness.{isSound}
 use Rattle.observation.specs.Calls.{addRowAnswer}
 use Rattle.observation.proofs.SoundRecord.{sound-parts, addRowRefusal-own}
-use Rattle.groups.specs.Group.{groupRowRefusal, groupRowAnswer, windowRow}
+use Rattle.groups.specs.Group.{groupRowAnswer, windowRow}
 use Rattle.observe.specs.Observe.{addWindowChecks}
 use Rattle.observe.specs.Calls.{lentLines, rowCalls, windowCalls}
 

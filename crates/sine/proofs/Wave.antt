@@ -13,12 +13,12 @@ use borrow.Author.Tests.{lt-ltb, le-ltb}
 use Rattle.algebra.specs.Rounding.{nearest}
 use Rattle.algebra.proofs.Integer.{*ℤ-negℤ, natAbs-negℤ}
 use Rattle.algebra.proofs.Lists.{getD-tabulate}
-use Rattle.sine.specs.Turn.{overHalf, overTurn, turn, halfTurn, quarterTurn}
+use Rattle.sine.specs.Turn.{overHalf, overTurn, turn, quarterTurn}
 use Rattle.sine.specs.ExactSine.{denominator, term, factorial, added, takenAway, quarterSine, exactSine, exactCosine}
 use Rattle.sine.specs.Wave.{fullScale, tableEntry, tableSine, tableCosine, WithinHalfUnit, quarterList, heightIn, waveList}
 use Rattle.algebra.proofs.Computed.{pass-below}
 use Rattle.algebra.proofs.Rounding.{nearest-is}
-use Rattle.sine.proofs.Turn.{le-or-lt, overTurn-first, over-turn, overTurn-mod}
+use Rattle.sine.proofs.Turn.{le-or-lt, over-turn, overTurn-mod}
 use Rattle.sine.proofs.ExactSine.{denominator-pos}
 
 -- the table is at most the full scale
@@ -37,12 +37,6 @@ tableSine-le =
 pub tableCosine-le : (i : ℕ) → natAbs (tableCosine i) ≤ fullScale
 unfolding tableCosine
 tableCosine-le i = tableSine-le (i + quarterTurn)
-
-pub tableHalf-le : (r : ℕ) → r < halfTurn → overHalf tableEntry r ≤ fullScale
-unfolding tableSine
-tableHalf-le r h =
-    let same : r % turn ≡ r = omega arith in
-    rw (overTurn-first tableEntry r (omega arith), same) at (tableSine-le r)
 
 -- two whole numbers of which neither is more than d/2 above the other
 half-apart : (x y d : ℕ) → 2 * x ≤ 2 * y + d → 2 * y ≤ 2 * x + d → 2 * natAbs (pos x -ℤ pos y) ≤ d

@@ -10,14 +10,10 @@ use native.Mathlib.Omega.{arith}
 use borrow.Author.Tests.{ltb-false}
 use lib.IntN.{ℤ, pos, natAbs, _*ℤ_}
 use lib.ListN.{getD, length, List·getD-eq-default}
-use mir.Syntax.{w64}
-use mir.Val.{toZ, ofZ}
-use mir.ValLaws.{toZ-ofZ}
 use Rattle.algebra.specs.Lists.{anyOf}
 use Rattle.algebra.specs.Rounding.{nearestℤ}
 use Rattle.algebra.proofs.Integer.{natAbs-*ℤ}
 use Rattle.algebra.proofs.Lists.{anyOf-none}
-use Rattle.algebra.proofs.Signed.{sfits-natAbs}
 use Rattle.algebra.proofs.Rounding.{natAbs-nearestℤ-le, nearest-le}
 use Rattle.algebra.proofs.SumTo.{sumTo-natAbs-le}
 use Rattle.sine.specs.Wave.{tableSine, tableCosine, fullScale}
@@ -38,10 +34,6 @@ square-le x h = mul-le-mul h h
 pub rounded-le : (sum : ℤ) → natAbs sum < 2 ^ 58 → natAbs (nearestℤ sum sumScale) ≤ 2 ^ 29
 rounded-le sum h =
     le-trans (natAbs-nearestℤ-le sum sumScale (omega arith)) (nearest-le (2 ^ 29) sumScale (omega arith) (omega arith))
-
--- a number that is a sum below 2^58 is read back from its bits as it was
-pub read-back : (number sum : ℤ) → number ≡ sum → natAbs sum < 2 ^ 58 → toZ w64 (ofZ w64 number) ≡ number
-read-back number sum e small = toZ-ofZ w64 number (sfits-natAbs w64 number (rw e (omega (arith, small))))
 
 -- the square of a rounded sum
 pub squared : (wave : ℕ → ℤ) (window : List ℤ) (k result : ℕ) (number : ℤ) → result ≡ square (nearestℤ number sumScale) → number ≡ lineSum wave window k → result ≡ square (roundedSum wave window k)

@@ -12,7 +12,6 @@ use Rattle.algebra.specs.Sums.{sumTo}
 use Rattle.algebra.proofs.Integer.{natAbs-*ℤ, natAbs-+ℤ-le, natAbs-negℤ}
 use Rattle.algebra.proofs.Ring.{variable, _⊕_, _⊖_, _⊗_, ⊝_, ring}
 use Rattle.algebra.proofs.SumTo.{sumTo-same, sumTo-pairs, sumTo-natAbs-le}
-use Rattle.sine.specs.Turn.{turn, halfTurn}
 use Rattle.sine.specs.Wave.{fullScale, tableSine, tableCosine}
 use Rattle.spectrum.specs.Line.{windowLength, lineSum}
 use Rattle.spectrum.specs.Spectrum.{largestSample, outOfRange}

@@ -19,13 +19,12 @@ use Rattle.spectrum.specs.Line.{windowAt, linesOf}
 use Rattle.spectrum.specs.Spectrum.{outOfRange}
 use Rattle.groups.specs.declared.Kind.the-variants.{HarmonicGroup}
 use Rattle.groups.specs.Spans.{spanOf, groupedAs, weightsIn, weightsOf, weightedSum}
-use Rattle.groups.specs.Group.{valueOver, groupAnswer, groupValues}
+use Rattle.groups.specs.Group.{valueOver, groupValues}
 use Rattle.groups.specs.Panel.{panelRefusal}
 use Rattle.groups.proofs.GroupEditions.{weightsOf-above}
 use Rattle.exported_windows.specs.PanelCall.{panelCallRefusal, panelCallLinesExit, panelCallValuesExit}
 use Rattle.worked_numbers.specs.Cases.{pulse}
 use Rattle.worked_numbers.proofs.Worked.{pulse-group}
-use Rattle.worked_numbers.proofs.Figures.{EachSetup}
 
 -- the row that the library's definition has
 pulse-row :

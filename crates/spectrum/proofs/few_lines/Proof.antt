@@ -5,11 +5,9 @@ use mathlib.Core.Path.{_≡_, sym, ap, _∙_}
 use Prim.Native.Nat.{_+_}
 use lib.Dec.{ltb}
 use lib.ListN.{length}
-use Rattle.refusals.specs.Numbers.{noRefusal}
 use Rattle.refusals.proofs.Answers.{unlessRefused-accepted, unlessRefused-refused}
 use Rattle.spectrum.specs.Line.{windowAt, lineLimit, linesFrom}
 use Rattle.spectrum.specs.Spectrum.{windowRefusal, linesFromRefusal, linesFromExit}
-use Rattle.spectrum.specs.Prepared.{Whole}
 use Rattle.spectrum.proofs.Accepted.{Accepted, window-accepted}
 use Rattle.spectrum.proofs.few_lines.Statement.{statement}
 use Rattle.spectrum.proofs.few_lines.Tie as tie

@@ -1,7 +1,6 @@
 -- `exported_windows::panel_call::kifsang_panel_row` meets its contract: the own check, or the library's row as it is received.
-use mathlib.Core.Path.{_≡_, sym, ap, _∙_}
+use mathlib.Core.Path.{sym, ap, _∙_}
 use borrow.Author.Needs.{needs}
-use lib.ListN.{length}
 use Rattle.refusals.specs.Numbers.{noRefusal}
 use Rattle.refusals.specs.Answers.{unlessRefused}
 use Rattle.rows.specs.Orders.{orderCount}

@@ -1,6 +1,5 @@
 -- `groups::panel::first_line` meets its contract.
 use mathlib.Core.Path.{ap}
-use borrow.Author.Needs.{needs}
 use Rattle.rows.proofs.Setups.{setup-parts}
 use Rattle.groups.specs.declared.Span.{Span}
 use Rattle.groups.proofs.panel.first_line.Statement.{statement}

@@ -6,7 +6,7 @@ use lib.ListN.{length, replicate}
 use Rattle.refusals.specs.Numbers.{noRefusal}
 use Rattle.refusals.proofs.Answers.{unlessRefused-accepted}
 use Rattle.groups.specs.Group.{windowRow}
-use Rattle.groups.specs.Panel.{panelLineCount, panelRefusal, panelAnswer, panelExit}
+use Rattle.groups.specs.Panel.{panelRefusal, panelAnswer, panelExit}
 use Rattle.groups.proofs.PanelLines.{panel-accepted}
 use Rattle.groups.proofs.panel.panel_row.Statement.{statement}
 use Rattle.groups.proofs.panel.panel_row.Tie as tie

@@ -1,6 +1,5 @@
 -- `groups::panel::panel_span` meets its contract: the group that is taken does not begin before the harmonic group.
 use mathlib.Core.Path.{_≡_, ap, _∙_}
-use native.Mathlib.Omega.{arith}
 use borrow.Author.Needs.{needs}
 use Rattle.rows.proofs.Setups.{setup-parts}
 use Rattle.groups.specs.declared.Kind.{Kind}

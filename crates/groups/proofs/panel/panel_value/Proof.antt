@@ -1,5 +1,4 @@
 -- `groups::panel::panel_value` meets its contract: the root of the sum over the span, which fits.
-use mathlib.Core.Path.{_≡_}
 use native.Mathlib.Omega.{arith}
 use borrow.Author.Needs.{needs}
 use Rattle.rows.proofs.Setups.{setup-parts}

@@ -11,7 +11,7 @@ use lib.ListN.{length, replicate}
 use Rattle.algebra.specs.Lists.{tabulate}
 use Rattle.algebra.proofs.Filling.{Filled, filled-more, filled-whole}
 use Rattle.refusals.specs.Numbers.{noRefusal}
-use Rattle.rows.specs.Orders.{orderCount, isOrder}
+use Rattle.rows.specs.Orders.{orderCount}
 use Rattle.rows.specs.declared.Setup.{Setup}
 use Rattle.rows.proofs.Orders.{order-of-place}
 use Rattle.spectrum.specs.Line.{windowAt, lineOf, linesFrom, linesOf}
@@ -20,7 +20,7 @@ use Rattle.groups.specs.declared.Kind.the-variants.{HarmonicGroup}
 use Rattle.groups.specs.Group.{lineAt, groupRefusal, groupAnswer, groupValues}
 use Rattle.groups.specs.Panel.{panelLineCount, firstLine}
 use Rattle.groups.proofs.GroupSum.{groupRefusal-of-place, accepted-value, windowRow-accepted}
-use Rattle.groups.proofs.PanelLines.{PanelAccepted, panel-accepted, panelRefusal-length, Holds, holds-more, few-left, firstLine-end}
+use Rattle.groups.proofs.PanelLines.{PanelAccepted, panel-accepted, panelRefusal-length, holds-more, few-left, firstLine-end}
 use Rattle.groups.proofs.panel.panel_values.Statement.{statement}
 use Rattle.groups.proofs.panel.panel_values.Tie as tie
 

@@ -1,7 +1,7 @@
 -- `groups::panel::work_group` meets its contract: the buffer then holds the lines of the order's harmonic group, the last of which is the next order's first.
 use mathlib.Core.List.{List}
-use mathlib.Core.Path.{_≡_, refl, sym, ap, _∙_}
-use Prim.Native.Nat.{ℕ, _+_, _-_, _≤_, _<_}
+use mathlib.Core.Path.{_≡_, sym, ap, _∙_}
+use Prim.Native.Nat.{ℕ, _+_, _-_, _≤_}
 use native.Mathlib.Omega.{arith}
 use borrow.Author.Needs.{needs}
 use borrow.Rule.Slice.PartMut.{midOf, postOf, putMid, mid-len, same-len-mid}
@@ -10,13 +10,9 @@ use lib.ListN.{length}
 use lib.Seq.{getD-set-same}
 use Rattle.rows.proofs.Setups.{setup-parts}
 use Rattle.rows.proofs.Systems.{SystemBounds, system-bounds}
-use Rattle.spectrum.specs.Line.{lineCount, lineLimit, windowAt, lineOf, linesFrom}
+use Rattle.spectrum.specs.Line.{lineCount, windowAt, lineOf, linesFrom}
 use Rattle.spectrum.proofs.Lines.{length-linesFrom}
-use Rattle.groups.specs.declared.Kind.the-variants.{HarmonicGroup}
-use Rattle.groups.specs.Spans.{spanOf}
-use Rattle.groups.specs.Group.{lineAt}
 use Rattle.groups.specs.Panel.{panelLineCount, firstLine}
-use Rattle.groups.proofs.Weights.{spanOf-bounds}
 use Rattle.groups.proofs.PanelLines.{PanelAccepted, panel-accepted, Holds, holds-more, few-left, firstLine-next, firstLine-end, panel-sum-lt, panel-value}
 use Rattle.groups.proofs.panel.work_group.Statement.{statement}
 use Rattle.groups.proofs.panel.work_group.Tie as tie

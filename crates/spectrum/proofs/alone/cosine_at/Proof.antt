@@ -1,5 +1,4 @@
 -- `spectrum::alone::cosine_at` meets its contract.
-use native.Mathlib.Omega.{arith}
 use borrow.Author.Needs.{needs}
 use Rattle.sine.specs.Wave.{tableCosine}
 use Rattle.spectrum.proofs.alone.cosine_at.Statement.{statement}

@@ -1,7 +1,6 @@
 -- `spectrum::alone::crossed` meets its contract: the two arms of the definition.
 use mathlib.Core.Path.{_≡_, ap₂, _∙_}
 use Prim.Native.Nat.{_^_, _<_}
-use borrow.Author.Needs.{needs}
 use lib.IntN.{natAbs, _+ℤ_, _-ℤ_}
 use mir.Syntax.{w32}
 use mir.Val.{toZ, ofZ}

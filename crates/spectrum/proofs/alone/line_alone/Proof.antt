@@ -1,16 +1,15 @@
 -- `spectrum::alone::line_alone` meets its contract: both sums are so small that they can be rounded and squared, and so is the sum of the squares.
 use mathlib.Core.Path.{_≡_, ap₂}
-use Prim.Native.Nat.{ℕ, _+_, _^_, _<_}
+use Prim.Native.Nat.{_+_, _^_, _<_}
 use native.Mathlib.Omega.{arith}
-use borrow.Author.Needs.{needs}
 use lib.IntN.{natAbs}
 use mir.Syntax.{w64}
 use mir.Val.{toZ, ofZ}
-use mathlib.Core.Path.{_∙_}
+use Rattle.algebra.proofs.Signed.{read-as}
 use Rattle.sine.specs.Wave.{tableSine, tableCosine}
 use Rattle.sine.proofs.Wave.{tableSine-le, tableCosine-le}
 use Rattle.spectrum.specs.Line.{lineSum, lineOf}
-use Rattle.spectrum.proofs.Bounds.{lineSum-le, line-le, read-back, squared}
+use Rattle.spectrum.proofs.Bounds.{lineSum-le, line-le, squared}
 use Rattle.spectrum.proofs.alone.line_alone.Statement.{statement}
 use Rattle.spectrum.proofs.alone.line_alone.Tie as tie
 
@@ -26,10 +25,10 @@ module _ (c : tie.After-whole-sums) where
 
   -- the sums as the machine reads them back from their bits
   cosine-is : toZ w64 (ofZ w64 (c .whole-sums .result .cosine)) ≡ lineSum tableCosine (start .args .window .now) (start .args .k)
-  cosine-is = read-back (c .whole-sums .result .cosine) _ (c .whole-sums .ensures .0) cosine-small ∙ c .whole-sums .ensures .0
+  cosine-is = read-as w64 (c .whole-sums .result .cosine) _ (c .whole-sums .ensures .0) (omega (arith, cosine-small))
 
   sine-is : toZ w64 (ofZ w64 (c .whole-sums .result .sine)) ≡ lineSum tableSine (start .args .window .now) (start .args .k)
-  sine-is = read-back (c .whole-sums .result .sine) _ (c .whole-sums .ensures .1) sine-small ∙ c .whole-sums .ensures .1
+  sine-is = read-as w64 (c .whole-sums .result .sine) _ (c .whole-sums .ensures .1) (omega (arith, sine-small))
 
 returns : tie.Need-returns
 unfolding lineOf

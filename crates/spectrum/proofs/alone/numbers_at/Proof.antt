@@ -3,21 +3,17 @@ use mathlib.Core.Path.{_≡_, ap₂, _∙_}
 use mathlib.Core.Bool.{not}
 use Prim.Native.Nat.{ℕ, _-_, _^_, _<_}
 use native.Mathlib.Omega.{arith}
-use borrow.Author.Needs.{needs}
-use lib.IntN.{ℤ, natAbs}
+use lib.IntN.{natAbs}
 use mir.Syntax.{w32}
 use mir.Val.{toZ, ofZ}
 use mir.ValLaws.{toZ-ofZ}
-use Rattle.algebra.proofs.Signed.{sfits-natAbs}
+use Rattle.algebra.proofs.Signed.{read-as}
 use Rattle.spectrum.specs.Folding.{pairSum, pairDifference, across}
 use Rattle.spectrum.proofs.QuarterSums.{pairSum-small, pairDifference-small}
 use Rattle.spectrum.proofs.alone.numbers_at.Statement.{statement}
 use Rattle.spectrum.proofs.alone.numbers_at.Tie as tie
 
--- a small number is read back from its bits as it was
-read : (number taken : ℤ) → number ≡ taken → natAbs taken < 2 ^ 30 → toZ w32 (ofZ w32 number) ≡ taken
-read number taken e small = toZ-ofZ w32 number (sfits-natAbs w32 number (rw e (omega (arith, small)))) ∙ e
-
+-- the pairs' numbers, as the machine reads them back from their bits
 module _ (c : tie.After-pair-at2) where
   abbrev start : tie.Start
   start = c .before .before
@@ -32,16 +28,16 @@ module _ (c : tie.After-pair-at2) where
   difference-small p = omega (arith, pairDifference-small (start .args .window .now) (start .pre .0 .in-range) p)
 
   near-sum : toZ w32 (ofZ w32 (c .before .pair-at .result .sum)) ≡ pairSum (start .args .window .now) j
-  near-sum = read _ _ (c .before .pair-at .ensures .0) (sum-small j)
+  near-sum = read-as w32 _ _ (c .before .pair-at .ensures .0) (omega (arith, sum-small j))
 
   far-sum : toZ w32 (ofZ w32 (c .pair-at2 .result .sum)) ≡ pairSum (start .args .window .now) (1024 - j)
-  far-sum = read _ _ (c .pair-at2 .ensures .0) (sum-small (1024 - j))
+  far-sum = read-as w32 _ _ (c .pair-at2 .ensures .0) (omega (arith, sum-small (1024 - j)))
 
   near-difference : toZ w32 (ofZ w32 (c .before .pair-at .result .difference)) ≡ pairDifference (start .args .window .now) j
-  near-difference = read _ _ (c .before .pair-at .ensures .1) (difference-small j)
+  near-difference = read-as w32 _ _ (c .before .pair-at .ensures .1) (omega (arith, difference-small j))
 
   far-difference : toZ w32 (ofZ w32 (c .pair-at2 .result .difference)) ≡ pairDifference (start .args .window .now) (1024 - j)
-  far-difference = read _ _ (c .pair-at2 .ensures .1) (difference-small (1024 - j))
+  far-difference = read-as w32 _ _ (c .pair-at2 .ensures .1) (omega (arith, difference-small (1024 - j)))
 
 abbrev pairs-of : tie.After-crossed → tie.After-pair-at2
 pairs-of c = c .before .before .before

@@ -1,5 +1,5 @@
 -- `spectrum::alone::sums_across` meets its contract. The loop's invariant: the sums are those over the places before j. The measure is what is left of the quarter.
-use mathlib.Core.Path.{_≡_, refl, ap, ap₂, _∙_}
+use mathlib.Core.Path.{_≡_, refl, ap₂, _∙_}
 use Prim.Native.Nat.{ℕ, _+_, _*_, _-_, _^_, _<_, _≤_}
 use native.Mathlib.Nat.{mul-le-mul, le-of-lt}
 use native.Mathlib.Omega.{arith}
@@ -10,11 +10,10 @@ use mir.Syntax.{w32, w64}
 use mir.Val.{toZ, ofZ}
 use mir.ValLaws.{toZ-ofZ}
 use Rattle.algebra.specs.Sums.{sumTo}
-use Rattle.algebra.proofs.Signed.{sfits-natAbs}
+use Rattle.algebra.proofs.Signed.{read-as}
 use Rattle.sine.specs.Turn.{quarterTurn}
 use Rattle.sine.specs.Wave.{tableSine, tableCosine}
 use Rattle.sine.proofs.Wave.{tableSine-le, tableCosine-le}
-use Rattle.spectrum.specs.Spectrum.{largestSample}
 use Rattle.spectrum.specs.Folding.{cosineAcross, sineAcross}
 use Rattle.spectrum.proofs.QuarterSums.{cosineAcross-small, sineAcross-small, quarter-sum-small, place-added}
 use Rattle.spectrum.proofs.alone.sums_across.Statement.{statement}
@@ -66,23 +65,20 @@ module _ (c : tie.At-loop Inv-loop μ-loop) where
       rw (c .loop .inv .3)
       (omega (arith, quarter-sum-small (sineAcross window k) (λ p. tableSine (p * k)) (sineAcross-small window (start .pre .0 .in-range) k) (λ p. tableSine-le (p * k)) (j - 1) (omega (arith, c .loop .inv .1))))
 
--- a number of a place, as the machine reads it back from its bits
-read : (number taken : ℤ) → number ≡ taken → natAbs taken ≤ 4 * largestSample → toZ w32 (ofZ w32 number) ≡ taken
-read number taken e small = toZ-ofZ w32 number (sfits-natAbs w32 number (rw e (omega (arith, small)))) ∙ e
-
+-- the numbers of a place, as the machine reads them back from their bits
 module _ (c : tie.After-numbers-at Inv-loop μ-loop) where
   abbrev at : tie.At-loop Inv-loop μ-loop
   at = c .before .before
 
   cosine-number : toZ w32 (ofZ w32 (c .numbers-at .result .cosine)) ≡ cosineAcross (window at) (k at) (j at)
   cosine-number =
-      read _ _ (rw (at .before .is-odd .ensures) at (c .numbers-at .ensures .0))
-      (cosineAcross-small (window at) (start at .pre .0 .in-range) (k at) (j at))
+      read-as w32 _ _ (rw (at .before .is-odd .ensures) at (c .numbers-at .ensures .0))
+      (omega (arith, cosineAcross-small (window at) (start at .pre .0 .in-range) (k at) (j at)))
 
   sine-number : toZ w32 (ofZ w32 (c .numbers-at .result .sine)) ≡ sineAcross (window at) (k at) (j at)
   sine-number =
-      read _ _ (rw (at .before .is-odd .ensures) at (c .numbers-at .ensures .1))
-      (sineAcross-small (window at) (start at .pre .0 .in-range) (k at) (j at))
+      read-as w32 _ _ (rw (at .before .is-odd .ensures) at (c .numbers-at .ensures .1))
+      (omega (arith, sineAcross-small (window at) (start at .pre .0 .in-range) (k at) (j at)))
 
 loop-again : tie.Need-loop-again Inv-loop μ-loop
 loop-again c =

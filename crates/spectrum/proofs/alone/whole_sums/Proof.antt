@@ -2,7 +2,6 @@
 use mathlib.Core.List.{List}
 use mathlib.Core.Path.{_≡_, ap, ap₂, _∙_}
 use Prim.Native.Nat.{ℕ, _+_, _*_, _^_, _<_, _≤_}
-use native.Mathlib.Nat.{mul-le-mul, le-of-lt}
 use native.Mathlib.Omega.{arith}
 use borrow.Author.Needs.{needs}
 use lib.IntN.{ℤ, natAbs, _+ℤ_, _*ℤ_}
@@ -10,19 +9,14 @@ use mir.Syntax.{w32, w64}
 use mir.Val.{toZ, ofZ}
 use mir.ValLaws.{toZ-ofZ}
 use Rattle.algebra.specs.Sums.{sumTo}
-use Rattle.algebra.proofs.Signed.{sfits-natAbs}
+use Rattle.algebra.proofs.Signed.{read-as}
 use Rattle.sine.specs.Wave.{tableSine, tableCosine}
 use Rattle.sine.proofs.Wave.{tableSine-le, tableCosine-le}
-use Rattle.spectrum.specs.Spectrum.{largestSample}
 use Rattle.spectrum.specs.Folding.{heldBy, pairSum, pairDifference, across, isOdd, cosineAcross, sineAcross, cosineOverQuarter, sineOverQuarter}
-use Rattle.spectrum.proofs.Bounds.{sample-le, read-back}
+use Rattle.spectrum.proofs.Bounds.{sample-le}
 use Rattle.spectrum.proofs.QuarterSums.{pairSum-small, pairDifference-small, endsAcross-small, cosineAcross-small, sineAcross-small, quarter-sum-small, product-more-small, cosineOverQuarter-whole, sineOverQuarter-whole}
 use Rattle.spectrum.proofs.alone.whole_sums.Statement.{statement}
 use Rattle.spectrum.proofs.alone.whole_sums.Tie as tie
-
--- a number of two samples, as the machine reads it back from its bits
-read : (number taken : ℤ) → number ≡ taken → natAbs taken ≤ 2 * largestSample → toZ w32 (ofZ w32 number) ≡ taken
-read number taken e small = toZ-ofZ w32 number (sfits-natAbs w32 number (rw e (omega (arith, small)))) ∙ e
 
 -- the sums over the quarter
 module _ (c : tie.After-sums-across) where
@@ -48,10 +42,10 @@ module _ (c : tie.After-sums-across) where
   sine-small = quarter-sum-small (sineAcross window k) (λ p. tableSine (p * k)) (sineAcross-small window (start .pre .0 .in-range) k) (λ p. tableSine-le (p * k)) 511 (omega arith)
 
   cosine-is : toZ w64 (ofZ w64 (c .sums-across .result .cosine)) ≡ cosineSum
-  cosine-is = read-back (c .sums-across .result .cosine) _ (c .sums-across .ensures .0) cosine-small ∙ c .sums-across .ensures .0
+  cosine-is = read-as w64 (c .sums-across .result .cosine) _ (c .sums-across .ensures .0) (omega (arith, cosine-small))
 
   sine-is : toZ w64 (ofZ w64 (c .sums-across .result .sine)) ≡ sineSum
-  sine-is = read-back (c .sums-across .result .sine) _ (c .sums-across .ensures .1) sine-small ∙ c .sums-across .ensures .1
+  sine-is = read-as w64 (c .sums-across .result .sine) _ (c .sums-across .ensures .1) (omega (arith, sine-small))
 
   index-small : 512 * k ≤ 512 * 1024
   index-small = omega (arith, start .pre .1 .1)
@@ -102,10 +96,10 @@ module _ (c : tie.After-accumulate) where
       omega (arith, product-more-small (cosineSum entry) ends (tableCosine 0) (2 ^ 58) (cosine-small entry) (endsAcross-small (window entry) (start entry .pre .0 .in-range) (k entry)) (tableCosine-le 0))
 
   middle-sum : toZ w32 (ofZ w32 (pair .pair-at .result .sum)) ≡ pairSum (window entry) 512
-  middle-sum = read _ _ (pair .pair-at .ensures .0) (pairSum-small (window entry) (start entry .pre .0 .in-range) 512)
+  middle-sum = read-as w32 _ _ (pair .pair-at .ensures .0) (omega (arith, pairSum-small (window entry) (start entry .pre .0 .in-range) 512))
 
   middle-difference : toZ w32 (ofZ w32 (pair .pair-at .result .difference)) ≡ pairDifference (window entry) 512
-  middle-difference = read _ _ (pair .pair-at .ensures .1) (pairDifference-small (window entry) (start entry .pre .0 .in-range) 512)
+  middle-difference = read-as w32 _ _ (pair .pair-at .ensures .1) (omega (arith, pairDifference-small (window entry) (start entry .pre .0 .in-range) 512))
 
 accumulate-requires : tie.Need-accumulate-requires
 accumulate-requires c κs =

@@ -10,19 +10,20 @@ use lib.Dec.{eqb}
 use lib.IntN.{ℤ, natAbs, negℤ}
 use mir.Syntax.{w64}
 use mir.Val.{toZ, ofZ}
-use mir.ValLaws.{toZ-ofZ}
-use Rattle.algebra.specs.Integers.{square}
-use Rattle.algebra.specs.Rounding.{nearestℤ}
-use Rattle.algebra.proofs.Signed.{sfits-natAbs}
+use Rattle.algebra.proofs.Signed.{read-as}
 use Rattle.sine.specs.Turn.{turn, quarterTurn}
 use Rattle.sine.specs.Wave.{tableSine, tableCosine}
 use Rattle.sine.proofs.Wave.{tableSine-le, tableCosine-le}
-use Rattle.spectrum.specs.Line.{lineSum, sumScale, roundedSum, lineOf}
+use Rattle.spectrum.specs.Line.{lineSum, lineOf}
 use Rattle.spectrum.specs.Folding.{heldBy, foldedWindow, placeSum, cosineOf, EndsAt}
-use Rattle.spectrum.proofs.Bounds.{lineSum-le, line-le, read-back, squared}
+use Rattle.spectrum.proofs.Bounds.{lineSum-le, line-le, squared}
 use Rattle.spectrum.proofs.FoldedLines.{ahead, half-le, sine-sum-small, cosine-is, sine-is, line-0-sum, line-0-is}
 use Rattle.spectrum.proofs.sums.line.Statement.{statement}
 use Rattle.spectrum.proofs.sums.line.Tie as tie
+
+-- a number that is a sum below 2^58 is read back from its bits as it was
+read-back : (number sum : ℤ) → number ≡ sum → natAbs sum < 2 ^ 58 → toZ w64 (ofZ w64 number) ≡ number
+read-back number sum e small = read-as w64 number sum e (omega (arith, small)) ∙ sym e
 
 -- ---- line 0
 
