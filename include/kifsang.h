@@ -73,7 +73,7 @@
  *     or 65.5 A, by at most 160 mA and 20.0 mA. A sample that the glitch takes out of range is refused (3).
  *     This is proved of kifsang_spectrum, kifsang_group_value, kifsang_row and kifsang_add_row, for every
  *     window, every place of the sample and every d (exported-glitch; ExportedGlitchHolds,
- *     crates/exported_accuracy/specs/Glitch.antt).
+ *     crates/exported_accuracy/specs/Glitch.antt). The row that kifsang_panel_row leaves is kifsang_row's.
  *
  * Limits
  *
@@ -180,7 +180,7 @@ enum kifsang_refusal {
     KIFSANG_UNKNOWN_SYSTEM = 1,       /* the system is neither 10 nor 12 */
     KIFSANG_SHORT_WINDOW = 2,         /* fewer than 2,048 samples from the start */
     KIFSANG_SAMPLE_OUT_OF_RANGE = 3,  /* a sample of the window is outside -131071..131071 */
-    KIFSANG_WRONG_LINE_COUNT = 4,     /* not 512 lines, 13 for the panel's row, or lines past number 1023 */
+    KIFSANG_WRONG_LINE_COUNT = 4,     /* not 512 lines (13 for the panel's row), or lines past number 1023 */
     KIFSANG_LINE_TOO_LARGE = 5,       /* a line above 2^59 */
     KIFSANG_ORDER_OUT_OF_RANGE = 6,   /* an order outside the orders of the call */
     KIFSANG_UNSOUND_RECORD = 7,       /* words that are not a sound record */
@@ -331,8 +331,9 @@ uint32_t kifsang_row(uint32_t kind, uint32_t system, uint32_t edition, const uin
  * Refusals: 102 value_count is not 40; 1 system not 10 or 12; 19 edition not 0 or 1; 2 fewer than 2,048
  *   samples from the start; 4 line_count is not 13; 3 a sample of the window outside -131071..131071. A
  *   refused call leaves the lines and the values as they were.
- * Proved error: that of kifsang_group_value, for each order. The row is one of those that
- *   kifsang_add_row speaks of (exported-demand3).
+ * Proved error: each value is at most 7 units from the exact group of the edition. The row is that of
+ *   kifsang_spectrum and kifsang_row, which would not be refused either, so what is said of such a row holds
+ *   of it (exported-demand3).
  * Definition: panelRefusal, panelAnswer and panelExit, crates/groups/specs/Panel.antt, and
  *   panelCallRefusal, panelCallLinesExit and panelCallValuesExit,
  *   crates/exported_windows/specs/PanelCall.antt.

@@ -122,7 +122,7 @@ refusals! {
     1 UNKNOWN_SYSTEM "the system is neither 10 nor 12"
     2 SHORT_WINDOW "fewer than 2,048 samples from the start"
     3 SAMPLE_OUT_OF_RANGE "a sample of the window is outside -131071..131071"
-    4 WRONG_LINE_COUNT "not 512 lines, 13 for the panel's row, or lines past number 1023"
+    4 WRONG_LINE_COUNT "not 512 lines (13 for the panel's row), or lines past number 1023"
     5 LINE_TOO_LARGE "a line above 2^59"
     6 ORDER_OUT_OF_RANGE "an order outside the orders of the call"
     7 UNSOUND_RECORD "words that are not a sound record"
@@ -453,7 +453,8 @@ pub fn row(
 /// Refusals: 102 not 40 values; 1 system not 10 or 12; 19 edition not 0 or 1; 2 fewer than 2,048 samples
 /// from the start; 4 not 13 lines; 3 a sample of the window outside -131071..131071.
 ///
-/// Proved error: that of [`group_value`], for each order.
+/// Proved error: each value is at most 7 units from the exact group of the edition. The row is that of
+/// [`spectrum`] and [`row`], so what is said of such a row holds of it.
 ///
 /// ```
 /// use kifsang::{panel_row, Kind, Refusal, EDITION_2, EDITION_A1};

@@ -5,9 +5,8 @@ use Prim.Native.Nat.{ℕ}
 use lib.IntN.{ℤ}
 use Rattle.refusals.specs.Numbers.{noRefusal}
 use Rattle.spectrum.specs.Line.{windowAt, linesOf}
-use Rattle.spectrum.specs.Spectrum.{spectrumRefusal, spectrumExit}
+use Rattle.spectrum.specs.Spectrum.{InRange, spectrumRefusal, spectrumExit}
 use Rattle.spectrum.proofs.Accepted.{accepted}
-use Rattle.accuracy.specs.Distance.{InRange}
 
 module _ (recording : List ℤ) (start : ℕ) (buffer : List ℕ) (taken : spectrumRefusal recording start buffer ≡ noRefusal) where
   pub window-in-range : InRange (windowAt recording start)

@@ -19,7 +19,7 @@ use Rattle.sine.specs.ExactSine.{denominator, exactSine, exactCosine}
 use Rattle.sine.proofs.ExactSine.{denominator-pos}
 use Rattle.spectrum.specs.Line.{lineOf, linesOf}
 use Rattle.spectrum.specs.Exact.{exactSum, exactLine}
-use Rattle.spectrum.specs.Spectrum.{outOfRange}
+use Rattle.spectrum.specs.Spectrum.{InRange, outOfRange}
 use Rattle.spectrum.proofs.Distance.{cosine-sum-near, sine-sum-near}
 use Rattle.spectrum.proofs.Lines.{length-linesOf, getD-linesOf, no-line-too-large}
 use Rattle.groups.specs.declared.Kind.{Kind}
@@ -31,7 +31,7 @@ use Rattle.rows.specs.declared.Setup.{Setup}
 use Rattle.rows.specs.Orders.{orderCount, isOrder}
 use Rattle.rows.proofs.Setups.{setup-parts}
 use Rattle.groups.proofs.Weights.{weightsOf-total-le, weightsOf-line-lt, weightedSum-eq}
-use Rattle.accuracy.specs.Distance.{EveryOrder, InRange, WeightsNear, GroupsNear, groupMargin}
+use Rattle.accuracy.specs.Distance.{EveryOrder, WeightsNear, GroupsNear, groupMargin}
 use Rattle.accuracy.proofs.Places.{Sums, roundedSums, placesOf, everywhere-placesOf, totalWeight-placesOf, value-within}
 
 -- the exact sums of a window's lines

@@ -14,6 +14,7 @@ use Rattle.algebra.specs.Rounding.{nearest}
 use Rattle.algebra.specs.Weighted.{sumOver}
 use Rattle.integers.specs.Root.{rootOf}
 use Rattle.spectrum.specs.Line.{lineCount, linesOf}
+use Rattle.spectrum.specs.Spectrum.{InRange}
 use Rattle.spectrum.proofs.Pulse as Pulse
 use Rattle.spectrum.proofs.Pulse.{pulse, pulse-in-range}
 use Rattle.groups.specs.declared.Kind.{Kind}
@@ -44,7 +45,7 @@ use Rattle.verdict.specs.Limit.{limitInUnits, peakLimitInUnits}
 use Rattle.verdict.specs.Tests.{isWithin, isOver}
 use Rattle.verdict.specs.Call.{combined, verdictIn, verdictAnswer}
 use Rattle.observation.specs.Average.{averageOf, peakOf}
-use Rattle.accuracy.specs.Distance.{EveryOrder, InRange, valueOf}
+use Rattle.accuracy.specs.Distance.{EveryOrder, valueOf}
 use Rattle.accuracy.specs.Rule.{reportedAverage}
 use Rattle.accuracy.specs.CallList.{CallList, after, reportedFrom}
 use Rattle.accuracy.specs.Claim.{ListHolds, reportedBook}

@@ -10,6 +10,7 @@ use lib.IntN.{ℤ}
 use lib.ListN.{length, replicate, length-replicate}
 use Rattle.algebra.specs.Weighted.{Everywhere}
 use Rattle.spectrum.specs.Line.{linesOf}
+use Rattle.spectrum.specs.Spectrum.{InRange}
 use Rattle.groups.specs.declared.Kind.{Kind}
 use Rattle.groups.specs.Group.{groupValues}
 use Rattle.rows.specs.Systems.{isSystem}
@@ -23,7 +24,6 @@ use Rattle.rows.proofs.Setups.{setup-parts, sameSetup-self}
 use Rattle.observation.specs.Soundness.{mostWindows}
 use Rattle.observation.specs.Calls.{rowChecks}
 use Rattle.observation.specs.BookCalls.{accepts, acceptedCalls}
-use Rattle.accuracy.specs.Distance.{InRange}
 use Rattle.accuracy.specs.CallList.{CallList, acceptedRows}
 use Rattle.accuracy.specs.WorkedRows.{Worked, SampledRows}
 use Rattle.accuracy.specs.LatestRows.{lastRows}

@@ -16,13 +16,14 @@ use Rattle.rows.specs.Editions.{isEdition}
 use Rattle.rows.specs.Setups.{setupOf, sameSetup}
 use Rattle.rows.proofs.Editions.{each-edition}
 use Rattle.wide_numbers.specs.Squares.{sumOfSquares}
+use Rattle.spectrum.specs.Spectrum.{InRange}
 use Rattle.groups.specs.declared.Kind.the-variants.{HarmonicGroup}
 use Rattle.spectrum.proofs.Pulse.{pulse}
 use Rattle.observation.specs.Latest.{lastOf}
 use Rattle.observation.specs.Calls.{rowChecks}
 use Rattle.observation.specs.BookCalls.{accepts, acceptedCalls, valueAt}
 use Rattle.three_seconds.specs.ThreeSecond.{threeSecondOf, threeSecondAnswer}
-use Rattle.accuracy.specs.Distance.{InRange, valueOf}
+use Rattle.accuracy.specs.Distance.{valueOf}
 use Rattle.accuracy.specs.CallList.{CallList, after}
 use Rattle.accuracy.specs.LatestRows.{lastValues}
 use Rattle.accuracy.proofs.WorkedRows.{worked-value}

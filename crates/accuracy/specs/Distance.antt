@@ -1,15 +1,13 @@
 -- The distance of 7 units (document 01, "Groups"; document 02, card 7): what it says of the group value R that is answered for the lines of a window, and of the exact group G.
 use mathlib.Core.Path.{_≡_}
-use mathlib.Core.Bool.{true, false}
+use mathlib.Core.Bool.{true}
 use mathlib.Core.List.{List}
 use Prim.Native.Nat.{ℕ, _+_, _-_, _<_, _≤_}
 use lib.IntN.{ℤ}
-use lib.ListN.{length}
 use Rattle.algebra.specs.Fraction.{Fraction, whole, square, _≤ᶠ_}
-use Rattle.algebra.specs.Lists.{anyOf}
 use Rattle.refusals.specs.Numbers.{noRefusal}
-use Rattle.spectrum.specs.Line.{windowLength, lineOf, linesOf}
-use Rattle.spectrum.specs.Spectrum.{outOfRange}
+use Rattle.spectrum.specs.Line.{lineOf, linesOf}
+use Rattle.spectrum.specs.Spectrum.{InRange}
 use Rattle.groups.specs.declared.Kind.{Kind}
 use Rattle.groups.specs.Spans.{Weighted, totalTwiceWeight, largestTotal}
 use Rattle.groups.specs.Group.{valueOver, groupAnswer}
@@ -25,11 +23,6 @@ groupMargin = 7
 -- for every order 1..40
 abbrev pub EveryOrder : (ℕ → Type 0) → Type 0
 EveryOrder holds = (order : ℕ) → 0 < order → order ≤ orderCount → holds order
-
--- a window in range: all its 2,048 samples are
-pub record InRange (window : List ℤ) : Type 0 where
-  pub whole-window : length window ≡ windowLength
-  pub samples : anyOf outOfRange window ≡ false
 
 -- a value R against an exact square G, as with the 7 units of a group: "R less 7 (not below
 -- 0), squared, is at most G, and G is at most R plus 7, squared"

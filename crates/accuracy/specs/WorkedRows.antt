@@ -4,10 +4,10 @@ use mathlib.Core.List.{List, map}
 use lib.IntN.{ℤ}
 use Rattle.algebra.specs.Weighted.{Everywhere}
 use Rattle.spectrum.specs.Line.{linesOf}
+use Rattle.spectrum.specs.Spectrum.{InRange}
 use Rattle.rows.specs.declared.Row.{Row}
 use Rattle.groups.specs.declared.Kind.{Kind}
 use Rattle.groups.specs.Group.{groupValues}
-use Rattle.accuracy.specs.Distance.{InRange}
 
 -- a row is worked from samples if, with its system and its edition, it holds the 40 values of the kind that are answered for the lines of one window in range
 pub record Worked (kind : Kind) (row : Row) (window : List ℤ) : Type 0 where

@@ -3,14 +3,19 @@ use mathlib.Core.Path.{_≡_}
 use mathlib.Core.List.{List, [], _∷_}
 use Prim.Native.Nat.{ℕ}
 use native.Mathlib.Omega.{arith}
+use borrow.Author.Tests.{eq-eqb}
 use lib.IntN.{ℤ}
+use lib.ListN.{length}
 use Rattle.refusals.specs.Numbers.{noRefusal}
 use Rattle.refusals.specs.Answers.{firstFault}
-use Rattle.spectrum.specs.Line.{windowAt, linesOf}
+use Rattle.spectrum.specs.Line.{lineCount, windowAt, linesOf}
+use Rattle.spectrum.specs.Spectrum.{spectrumRefusal, spectrumExit}
 use Rattle.groups.specs.declared.Kind.the-variants.{HarmonicGroup}
-use Rattle.groups.specs.Group.{groupRefusal}
-use Rattle.groups.proofs.GroupSum.{accepted, accepted-value}
-use Rattle.groups.proofs.PanelLines.{panel-accepted}
+use Rattle.groups.specs.Group.{groupRefusal, groupValues}
+use Rattle.groups.specs.Panel.{panelRefusal}
+use Rattle.groups.proofs.GroupSum.{accepted, accepted-value, windowRow-accepted}
+use Rattle.groups.proofs.PanelLines.{PanelAccepted, panel-accepted}
+use Rattle.groups.proofs.PanelRow.{spectrum-too}
 use Rattle.rows.specs.Orders.{orderCount}
 use Rattle.rows.specs.declared.Setup.{Setup}
 use Rattle.rows.proofs.Orders.{order-bounds}
@@ -19,7 +24,7 @@ use Rattle.accuracy.proofs.AcceptedWindows.{window-in-range, lines-left}
 use Rattle.accuracy.specs.WorkedRows.{Worked}
 use Rattle.accuracy.proofs.GroupDistance.{groups-near}
 use Rattle.accuracy.proofs.WorkedRows.{worked-near}
-use Rattle.exported_windows.specs.Kinds.{kindWith, kindCheck}
+use Rattle.exported_windows.specs.Kinds.{kinds, isKind, kindWith, kindCheck}
 use Rattle.exported_windows.specs.GroupCalls.{groupCallRefusal, groupCallExit, rowCallRefusal, rowCallExit}
 use Rattle.exported_windows.specs.PanelCall.{panelCallRefusal, panelCallValuesExit}
 use Rattle.exported_records.specs.RecordCalls.{lentRow}
@@ -50,13 +55,50 @@ unfolding rowCallRefusal rowCallExit
 called-row recording start buffer number setup before taken asked =
     record { in-range = window-in-range recording start buffer taken; values = rw (asked, lines-left recording start buffer taken) }
 
+module _ (recording : List ℤ) (start : ℕ) (setup : Setup) (lines before : List ℕ)
+    (asked : panelCallRefusal setup recording start lines before ≡ noRefusal) where
+  passed : panelRefusal setup recording start lines ≡ noRefusal
+  unfolding panelCallRefusal
+  passed = own-first-none (firstFault (wordCountCheck orderCount before ∷ [])) _ asked
+
+  call : PanelAccepted setup recording start lines
+  call = panel-accepted setup recording start lines passed
+
+  panel-values : panelCallValuesExit setup recording start lines before ≡ groupValues HarmonicGroup setup (linesOf (windowAt recording start))
+  unfolding panelCallValuesExit
+  panel-values = rw asked
+
+  panel-worked : Worked HarmonicGroup (lentRow setup (panelCallValuesExit setup recording start lines before)) (windowAt recording start)
+  panel-worked = record { in-range = call .in-range; values = panel-values }
+
+  module _ (all values : List ℕ) (whole : length all ≡ lineCount) (count : length values ≡ orderCount) where
+    taken : spectrumRefusal recording start all ≡ noRefusal
+    taken = spectrum-too setup recording start lines all whole passed
+
+    row-taken : rowCallRefusal 1 setup (spectrumExit recording start all) values ≡ noRefusal
+    unfolding rowCallRefusal isKind kinds
+    row-taken =
+        rw (
+          eq-eqb (length values) orderCount count,
+          lines-left recording start all taken,
+          windowRow-accepted setup (windowAt recording start) (call .known-setup) (call .in-range .samples),
+        )
+
+    same-values : panelCallValuesExit setup recording start lines before ≡ rowCallExit 1 setup (spectrumExit recording start all) values
+    unfolding rowCallExit kindWith kinds
+    same-values = rw (row-taken, lines-left recording start all taken) panel-values
+
 pub called-panel :
     (recording : List ℤ) (start : ℕ) (setup : Setup) (lines before : List ℕ) →
     CalledPanel recording start setup lines before
-unfolding panelCallRefusal panelCallValuesExit
 called-panel recording start setup lines before asked =
-    let passed = own-first-none (firstFault (wordCountCheck orderCount before ∷ [])) _ asked in
-    let call = panel-accepted setup recording start lines passed in
-    let from-samples : Worked HarmonicGroup (lentRow setup (panelCallValuesExit setup recording start lines before)) (windowAt recording start) =
-    record { in-range = record { whole-window = call .whole-window; samples = call .in-range }; values = rw asked } in
-    record { worked = from-samples; near = worked-near HarmonicGroup _ _ from-samples (call .known-setup) }
+    let worked = panel-worked recording start setup lines before asked in
+    record {
+      worked = worked;
+      near = worked-near HarmonicGroup _ _ worked (call recording start setup lines before asked .known-setup);
+      same-row = λ all values whole count. (
+        taken recording start setup lines before asked all values whole count,
+        row-taken recording start setup lines before asked all values whole count,
+        same-values recording start setup lines before asked all values whole count,
+      );
+    }

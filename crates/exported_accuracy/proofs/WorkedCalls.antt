@@ -11,6 +11,7 @@ use lib.IntN.{ℤ}
 use lib.ListN.{length, replicate}
 use Rattle.algebra.specs.Lists.{tabulate}
 use Rattle.spectrum.specs.Line.{linesOf}
+use Rattle.spectrum.specs.Spectrum.{InRange}
 use Rattle.groups.specs.declared.Kind.{Kind}
 use Rattle.groups.specs.Group.{groupValues}
 use Rattle.rows.specs.Systems.{isSystem}
@@ -18,7 +19,7 @@ use Rattle.rows.specs.Editions.{isEdition}
 use Rattle.rows.specs.Setups.{setupOf, isSetup}
 use Rattle.rows.proofs.Editions.{each-edition}
 use Rattle.rows.specs.Orders.{orderCount}
-use Rattle.accuracy.specs.Distance.{EveryOrder, InRange, WithinMargin}
+use Rattle.accuracy.specs.Distance.{EveryOrder, WithinMargin}
 use Rattle.accuracy.specs.CallList.{acceptedRows}
 use Rattle.accuracy.specs.WorkedRows.{SampledRows}
 use Rattle.accuracy.specs.LatestRows.{exactThreeSecond, lastRows}

@@ -11,7 +11,8 @@ use lib.ListN.{length, getD}
 use Rattle.algebra.specs.Fraction.{whole, _+ᶠ_, _≤ᶠ_}
 use Rattle.refusals.specs.Numbers.{noRefusal, tooFewWindows}
 use Rattle.rows.specs.declared.Setup.{Setup}
-use Rattle.spectrum.specs.Line.{windowAt}
+use Rattle.rows.specs.Orders.{orderCount}
+use Rattle.spectrum.specs.Line.{lineCount, windowAt}
 use Rattle.spectrum.specs.Spectrum.{spectrumRefusal, spectrumExit}
 use Rattle.groups.specs.declared.Kind.{Kind}
 use Rattle.groups.specs.declared.Kind.the-variants.{HarmonicGroup}
@@ -102,13 +103,18 @@ module _ (recording : List ℤ) (start : ℕ) (buffer : List ℕ) (number : ℕ)
       (lentRow setup (rowCallExit number setup (spectrumExit recording start buffer) before))
       (windowAt recording start)
 
--- kifsang_panel_row of a recording, not refused (document 02, card 6): its row is worked from samples, and each of its values is within 7 units of the exact group
+-- kifsang_panel_row of a recording, not refused (document 02, card 6): its row is worked from samples, each of its values is within 7 units of the exact group,
+-- and it is the very row that kifsang_spectrum, with any 512 lines, and kifsang_row, of kind 1 with any 40 values, leave; neither is refused
 module _ (recording : List ℤ) (start : ℕ) (setup : Setup) (lines before : List ℕ) where
   pub record PanelHolds : Type 0 where
     pub worked : Worked HarmonicGroup (lentRow setup (panelCallValuesExit setup recording start lines before)) (windowAt recording start)
     pub near : EveryOrder (λ order.
         ValueNear HarmonicGroup setup order (windowAt recording start)
         (getD (panelCallValuesExit setup recording start lines before) (order - 1) 0))
+    pub same-row : (all values : List ℕ) → length all ≡ lineCount → length values ≡ orderCount →
+        (spectrumRefusal recording start all ≡ noRefusal) ×
+        (rowCallRefusal 1 setup (spectrumExit recording start all) values ≡ noRefusal) ×
+        (panelCallValuesExit setup recording start lines before ≡ rowCallExit 1 setup (spectrumExit recording start all) values)
 
   abbrev pub CalledPanel : Type 0
   CalledPanel = panelCallRefusal setup recording start lines before ≡ noRefusal → PanelHolds

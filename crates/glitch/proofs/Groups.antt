@@ -14,6 +14,7 @@ use Rattle.integers.proofs.Root.{Root}
 use Rattle.refusals.specs.Numbers.{noRefusal}
 use Rattle.sine.specs.Wave.{tableSine, tableCosine}
 use Rattle.spectrum.specs.Line.{roundedSum, lineOf}
+use Rattle.spectrum.specs.Spectrum.{InRange}
 use Rattle.rows.specs.Orders.{isOrder}
 use Rattle.rows.specs.Setups.{isSetup}
 use Rattle.rows.specs.declared.Setup.{Setup}
@@ -22,7 +23,6 @@ use Rattle.groups.specs.Spans.{Weighted, weightsOf, totalTwiceWeight, largestTo
 use Rattle.groups.specs.Group.{valueOver, groupRefusal, groupAnswer, groupValue}
 use Rattle.groups.proofs.GroupSum.{accepted-value}
 use Rattle.groups.proofs.Weights.{weightsOf-total-le, weightedSum-le-total}
-use Rattle.accuracy.specs.Distance.{InRange}
 use Rattle.accuracy.proofs.AcceptedWindows.{window-in-range, lines-left}
 use Rattle.accuracy.proofs.Places.{roundedSums, placesOf, squares-at, value-root, value-within}
 use Rattle.accuracy.proofs.GroupDistance.{is-order, lines-accepted, lines-of-group}

@@ -1,4 +1,4 @@
--- The panel's buffer (document 02, card 6): what it tells that the call is not refused, and the value of an order from a buffer that holds the lines of its harmonic group.
+-- The panel's buffer (document 02, card 6): what is known of a call that is not refused, and the value of an order from a buffer that holds the lines of its harmonic group.
 use mathlib.Core.Bool.{Bool, true, false, cond, not, _&&_}
 use mathlib.Core.List.{List, _++_}
 use mathlib.Core.Path.{_≡_, sym, ap, _∙_}
@@ -10,7 +10,6 @@ use lib.Dec.{eqb}
 use lib.IntN.{ℤ}
 use lib.ListN.{length, take, List·getD-append}
 use lib.Seq.{getD-take, getD-append-add, length-take-le}
-use Rattle.algebra.specs.Lists.{anyOf}
 use Rattle.integers.specs.Root.{rootOf}
 use Rattle.refusals.specs.Numbers.{noRefusal, unknownSystem, unknownEdition}
 use Rattle.refusals.proofs.Answers.{no-fault, unlessRefused-accepted}
@@ -21,9 +20,9 @@ use Rattle.rows.specs.Systems.{isSystem}
 use Rattle.rows.specs.declared.Setup.{Setup}
 use Rattle.rows.proofs.Setups.{isSetup-known, setup-parts}
 use Rattle.rows.proofs.Systems.{system-bounds}
-use Rattle.spectrum.specs.Line.{windowLength, lineCount, lineLimit, windowAt, lineOf, linesFrom, linesOf}
-use Rattle.spectrum.specs.Spectrum.{outOfRange, windowRefusal, linesFromExit}
-use Rattle.spectrum.proofs.Accepted.{window-accepted, lines-accepted}
+use Rattle.spectrum.specs.Line.{lineCount, lineLimit, windowAt, lineOf, linesFrom, linesOf}
+use Rattle.spectrum.specs.Spectrum.{InRange, windowRefusal, linesFromExit}
+use Rattle.spectrum.proofs.Accepted.{window-accepted, part-accepted}
 use Rattle.spectrum.proofs.Lines.{length-linesFrom, getD-linesFrom, getD-linesOf, no-line-too-large}
 use Rattle.groups.specs.declared.Kind.{Kind}
 use Rattle.groups.specs.declared.Kind.the-variants.{Component, HarmonicGroup}
@@ -39,8 +38,7 @@ use Rattle.groups.proofs.GroupSum.{weightedSum-lt}
 pub record PanelAccepted (setup : Setup) (recording : List ℤ) (start : ℕ) (buffer : List ℕ) : Type 0 where
   pub known-setup : isSetup setup ≡ true
   pub line-count : length buffer ≡ panelLineCount
-  pub whole-window : length (windowAt recording start) ≡ windowLength
-  pub in-range : anyOf outOfRange (windowAt recording start) ≡ false
+  pub in-range : InRange (windowAt recording start)
   pub window-passed : windowRefusal recording start (not (eqb (length buffer) panelLineCount)) ≡ noRefusal
 
 pub panel-accepted :
@@ -55,8 +53,7 @@ panel-accepted setup recording start buffer e =
     record {
       known-setup = isSetup-known setup (not-false _ (system .0)) (not-false _ (edition .0));
       line-count = eqb-true _ _ (not-false _ (window .right-count));
-      whole-window = window .whole-window;
-      in-range = window .in-range;
+      in-range = record { whole-window = window .whole-window; samples = window .in-range };
       window-passed = edition .1;
     }
 
@@ -100,14 +97,14 @@ holds-more window first have count total buffer lines rest sum room more holds i
         ∙ getD-linesFrom (first + have) count window (i - have) (omega arith)
         ∙ ap (lineOf window) number
 
--- what `few_lines` leaves in a part of the buffer of so many lines
-pub few-left :
+-- what `lines_alone` leaves in a part of the buffer of so many lines
+pub lines-alone-left :
     (setup : Setup) (recording : List ℤ) (start : ℕ) (buffer : List ℕ) → PanelAccepted setup recording start buffer →
     (first count : ℕ) (part : List ℕ) → length part ≡ count → first + count ≤ lineLimit →
     linesFromExit recording start first part ≡ linesFrom first count (windowAt recording start)
 unfolding linesFromExit
-few-left setup recording start buffer accepted first count part long within =
-    unlessRefused-accepted _ _ part (lines-accepted recording start _ (accepted .window-passed) first part (rw long within))
+lines-alone-left setup recording start buffer accepted first count part long within =
+    unlessRefused-accepted _ _ part (part-accepted recording start _ (accepted .window-passed) first part (rw long within))
     ∙ ap (λ n. linesFrom first n (windowAt recording start)) long
 
 module _ (setup : Setup) (h : ℕ) (known : isSetup setup ≡ true) (order : isOrder h ≡ true) where
@@ -117,30 +114,26 @@ module _ (setup : Setup) (h : ℕ) (known : isSetup setup ≡ true) (order : isO
   abbrev span : Span
   span = groupSpan HarmonicGroup setup h
 
-  -- the group that is taken lies within the harmonic group of document 01's table: it is that group, or the component
-  pub record Within : Type 0 where
-    pub from : firstLine setup h ≤ span .first
-    pub to : span .first + span .count ≤ firstLine setup h + (n + 1)
+  -- the lines of a kind lie within the harmonic group of document 01's table
+  pub record Within (kind : Kind) : Type 0 where
+    pub from : firstLine setup h ≤ spanOf kind n h .first
+    pub to : spanOf kind n h .first + spanOf kind n h .count ≤ firstLine setup h + (n + 1)
 
-  abbrev Inside : Kind → Type 0
-  Inside kind =
-      (firstLine setup h ≤ spanOf kind n h .first) × (spanOf kind n h .first + spanOf kind n h .count ≤ firstLine setup h + (n + 1))
-
-  component-inside : Inside Component
+  component-within : Within Component
   unfolding spanOf
-  component-inside =
+  component-within =
       let s = system-bounds n (setup-parts setup known .system-known) in
       let c = centre-bounds n h (setup-parts setup known .system-known) order in
-      (omega arith, omega arith)
+      record { from = omega arith; to = omega arith }
 
-  inside : (a1 : Bool) → Inside (cond a1 Component HarmonicGroup)
-  unfolding spanOf
-  inside true = component-inside
-  inside false = (omega arith, omega arith)
-
-  pub within : Within
-  unfolding groupedAs
-  within = let both = inside (eqb (setup .edition) editionA1 && eqb h 1) in record { from = both .0; to = both .1 }
+  -- so do those of the group that is taken, which is that group or the component
+  pub within : Within (groupedAs HarmonicGroup (setup .edition) h)
+  unfolding groupedAs spanOf
+  within = by-test (eqb (setup .edition) editionA1 && eqb h 1)
+    where
+      by-test : (a1 : Bool) → Within (cond a1 Component HarmonicGroup)
+      by-test true = component-within
+      by-test false = record { from = omega arith; to = omega arith }
 
   module _ (window : List ℤ) (buffer : List ℕ) (holds : Holds window (firstLine setup h) (n + 1) buffer) where
     -- the sum over the buffer is that over the 512 lines
@@ -158,10 +151,10 @@ module _ (setup : Setup) (h : ℕ) (known : isSetup setup ≡ true) (order : isO
     unfolding valueOver groupValue
     panel-value = ap rootOf panel-sum
 
-    pub panel-sum-lt : anyOf outOfRange window ≡ false → weightedSum (lineAt buffer) (weightsIn (panelSpan setup h)) < 2 ^ 64
+    pub panel-sum-lt : InRange window → weightedSum (lineAt buffer) (weightsIn (panelSpan setup h)) < 2 ^ 64
     panel-sum-lt in-range =
         rw panel-sum
-        (weightedSum-lt (linesOf window) (no-line-too-large window in-range) (weightsOf HarmonicGroup setup h) (weightsOf-total-le HarmonicGroup setup h known order))
+        (weightedSum-lt (linesOf window) (no-line-too-large window (in-range .samples)) (weightsOf HarmonicGroup setup h) (weightsOf-total-le HarmonicGroup setup h known order))
 
 -- the last line of a group is the first of the next
 pub firstLine-next : (setup : Setup) (h : ℕ) → isSetup setup ≡ true → isOrder h ≡ true → firstLine setup (h + 1) ≡ firstLine setup h + setup .system

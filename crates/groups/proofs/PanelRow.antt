@@ -34,7 +34,7 @@ module _ (setup : Setup) (recording : List ℤ) (start : ℕ) (small big : List 
     unfolding spectrumExit groupRowAnswer panelAnswer windowRow
     same-row =
         let call = panel-accepted setup recording start small passed in
-        rw (spectrum-too, passed, windowRow-accepted setup (windowAt recording start) (call .known-setup) (call .in-range))
+        rw (spectrum-too, passed, windowRow-accepted setup (windowAt recording start) (call .known-setup) (call .in-range .samples))
 
   -- where the other two are
   module _ (room : length small ≡ panelLineCount) (taken : spectrumRefusal recording start big ≡ noRefusal)

@@ -1,6 +1,6 @@
 -- The edges of the panel's call and of its checks' order, worked on the definitions in figures: the number, what the buffer then holds, and the row of a call that is refused.
 use mathlib.Core.Bool.{Bool, true, false}
-use mathlib.Core.List.{List, [], _∷_, map}
+use mathlib.Core.List.{List, [], _∷_, _++_, map}
 use mathlib.Core.Path.{_≡_, refl}
 use Prim.Native.Nat.{ℕ, _-_, _^_}
 use lib.IntN.{ℤ, pos, negsuc}
@@ -38,6 +38,8 @@ taken =
     case 10 1 (replicate 2049 (pos 0)) 1 13 0 ∷
     -- a sample before the window, which is not looked at
     case 12 1 (pos 131072 ∷ replicate 2048 (pos 0)) 1 13 0 ∷
+    -- and one after it
+    case 12 1 (replicate 2048 (pos 0) ++ (pos 131072 ∷ [])) 0 13 0 ∷
     []
 
 abbrev refused : List Case

@@ -13,7 +13,7 @@ use rows::RowAnswer;
 use rows::Setup;
 use rows::refused_row;
 use rows::setup_fault_or;
-use spectrum::few_lines;
+use spectrum::lines_alone;
 use spectrum::window_refusal;
 ghost use mathlib.Core.Bool.{true, not};
 ghost use mathlib.Core.List.{_++_};
@@ -90,7 +90,7 @@ fn work_group(setup: Setup, order: u32, recording: &[i32], start: usize, lines: 
 {
     let cycles = setup.system as usize;
     let second = first_line(setup, order) + 1;
-    few_lines(recording, start, second, &mut lines[1..cycles + 1]);
+    lines_alone(recording, start, second, &mut lines[1..cycles + 1]);
     let value = panel_value(setup, order, lines);
     lines[0] = lines[cycles];
     value
@@ -107,7 +107,7 @@ fn panel_values(
     ensures { λ r. ⌜ r ≡ groupValues HarmonicGroup setup (linesOf (windowAt (now (recording .entry)) start)) ⌝ }
 {
     let mut values = [0; ORDER_COUNT];
-    few_lines(recording, start, first_line(setup, 1), &mut lines[0..1]);
+    lines_alone(recording, start, first_line(setup, 1), &mut lines[0..1]);
     let mut i = 0;
     while i < ORDER_COUNT {
         values[i] = work_group(setup, i as u32 + 1, recording, start, lines);
@@ -120,10 +120,10 @@ fn panel_values(
 fn clear(lines: &mut [u64])
     ensures { λ _. ⌜ now (lines .exit) ≡ replicate (length (now (lines .entry))) 0 ⌝ }
 {
-    let mut i = 0;
-    while i < lines.len() {
-        lines[i] = 0;
-        i += 1;
+    let mut place = 0;
+    while place < lines.len() {
+        lines[place] = 0;
+        place += 1;
     }
 }
 

@@ -1,6 +1,6 @@
 // The sine of the 2,048 indices of a turn (document 01, "From samples to spectrum"): a constant table
 // of the quarter wave, from which the whole wave is made once and then lent. A value is 2^30 times
-// the sine. The table is taken into a local once in each public call; specs/Wave.antt defines the
+// the sine. The table is copied where it is named, so a function takes it once and lends it; specs/Wave.antt defines the
 // values, and proofs/Wave.antt has their bound and their distance from the exact sine.
 ghost use mathlib.Core.Path.{_≡_};
 ghost use Prim.Native.Nat.{_%_, _<_};
@@ -536,7 +536,7 @@ const QUARTER_WAVE: [u32; QUARTER_TURN + 1] = [
     1073741824,
 ];
 
-// The quarter wave, each entry shown to be its definition. It is a copy, to be made once in a call and lent.
+// The quarter wave, each entry shown to be its definition. It is a copy, to be made once and lent to the loops that read it.
 pub fn quarter_wave() -> [u32; QUARTER_TURN + 1]
     ensures { λ r. ⌜ r ≡ quarterList ⌝ }
 {
@@ -562,7 +562,8 @@ pub fn turn_index(index: usize) -> usize
     index & TURN_MASK
 }
 
-// The wave at any index, made of any lent quarter: of the table's, the table's sine. The height is looked up before its sign is known, so that nothing is jumped over.
+// The wave at any index, made of any lent quarter: of the table's, the table's sine. 64 bits hold the negative of every height.
+// The height is looked up before its sign is known, so that a loop over it needs no branch.
 pub fn wave_at(quarter: &[u32; QUARTER_TURN + 1], index: usize) -> i64
     ensures { λ r. ⌜ r ≡ overTurn (heightIn (now (quarter .entry))) index ⌝ }
 {

@@ -52,12 +52,12 @@ window-again recording start wrongCount other passed right =
     rw (no-fault shortWindow, right, no-fault sampleOutOfRange)
 
 -- so for any part of its lines
-pub lines-accepted :
+pub part-accepted :
     (recording : List ℤ) (start : ℕ) (wrongCount : Bool) →
     windowRefusal recording start wrongCount ≡ noRefusal →
     (first : ℕ) (buffer : List ℕ) →
     first + length buffer ≤ lineLimit →
     linesFromRefusal recording start first buffer ≡ noRefusal
 unfolding windowRefusal linesFromRefusal
-lines-accepted recording start wrongCount passed first buffer within =
+part-accepted recording start wrongCount passed first buffer within =
     window-again recording start wrongCount _ passed (le-ltb lineLimit (first + length buffer) within)

@@ -118,7 +118,7 @@ module _ (window : List ℤ) (in-range : anyOf outOfRange window ≡ false) wher
 -- the sum over the places 1..n, of 511 at most, of what such numbers give
 pub quarter-sum-small : (number wave : ℕ → ℤ) → ((j : ℕ) → natAbs (number j) ≤ 4 * largestSample) → ((j : ℕ) → natAbs (wave j) ≤ fullScale) →
     (n : ℕ) → n ≤ 511 → natAbs (sumTo n (λ i. number (1 + i) *ℤ wave (1 + i))) < 2 ^ 58
-quarter-sum-small number wave number-le wave-le n few =
+quarter-sum-small number wave number-le wave-le n within =
     omega (
       arith,
       sumTo-natAbs-le n (4 * largestSample * fullScale) (λ i. number (1 + i) *ℤ wave (1 + i))

@@ -12,11 +12,6 @@ use Rattle.spectrum.specs.Line.{windowLength, windowAt, lineOf, linesFro
 use Rattle.spectrum.specs.Folding.{heldBy, foldedWindow, largestFolded}
 use Rattle.spectrum.specs.Spectrum.{outOfRange, windowRefusal}
 
--- a window of all its samples, each in range
-pub record Whole (window : List ℤ) : Type 0 where
-  pub long : length window ≡ windowLength
-  pub in-range : anyOf outOfRange window ≡ false
-
 -- a window in range, folded, and one turn of the table's sine
 pub record Prepared (folded wave : List ℤ) : Type 0 where
   pub window : List ℤ

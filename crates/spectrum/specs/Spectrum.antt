@@ -1,6 +1,7 @@
 -- What the calls for a window's lines answer and what their buffers then hold (document 01, "From samples to spectrum" and the refusal table's row "spectrum").
-use mathlib.Core.Bool.{Bool, not}
+use mathlib.Core.Bool.{Bool, false, not}
 use mathlib.Core.List.{List, [], _∷_}
+use mathlib.Core.Path.{_≡_}
 use Prim.Native.Nat.{ℕ, _+_, _-_}
 use lib.Dec.{eqb, ltb}
 use lib.IntN.{ℤ, natAbs}
@@ -17,6 +18,11 @@ largestSample = 131071
 unfoldable pub outOfRange : ℤ → Bool
 outOfRange sample = ltb largestSample (natAbs sample)
 
+-- a window in range: all its 2,048 samples are
+pub record InRange (window : List ℤ) : Type 0 where
+  pub whole-window : length window ≡ windowLength
+  pub samples : anyOf outOfRange window ≡ false
+
 -- 2 fewer than 2,048 samples from start
 abbrev pub shortCheck : List ℤ → ℕ → Bool × ℕ
 shortCheck recording start = (ltb (length recording - start) windowLength, shortWindow)
@@ -30,6 +36,7 @@ abbrev pub windowChecks : List ℤ → ℕ → Bool → List (Bool × ℕ)
 windowChecks recording start wrongCount =
     shortCheck recording start ∷ (wrongCount, wrongLineCount) ∷ rangeCheck recording start ∷ []
 
+-- the refusal of such a row
 unfoldable pub windowRefusal : List ℤ → ℕ → Bool → ℕ
 windowRefusal recording start wrongCount = firstFault (windowChecks recording start wrongCount)
 

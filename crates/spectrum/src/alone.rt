@@ -17,7 +17,7 @@ ghost use Rattle.sine.specs.Turn.{quarterTurn};
 ghost use Rattle.sine.specs.Wave.{quarterList, tableSine, tableCosine};
 ghost use Rattle.spectrum.specs.Line.{windowLength, lineLimit, lineSum, lineOf};
 ghost use Rattle.spectrum.specs.Folding.{pairSum, pairDifference, across, isOdd, cosineAcross, sineAcross};
-ghost use Rattle.spectrum.specs.Prepared.{Whole};
+ghost use Rattle.spectrum.specs.Spectrum.{InRange};
 
 // The samples of a pair, added and taken from each other.
 struct Pair {
@@ -27,7 +27,7 @@ struct Pair {
 
 // The samples j and 2048 − j.
 fn pair_at(window: &[i32], j: usize) -> Pair
-    requires { ⌜ Whole (now window) ⌝ }
+    requires { ⌜ InRange (now window) ⌝ }
     requires { ⌜ 1 ≤ j ⌝ }
     requires { ⌜ j < windowLength ⌝ }
     ensures { λ r. ⌜ r .sum ≡ pairSum (now (window .entry)) j ⌝ }
@@ -82,7 +82,7 @@ struct Numbers {
 
 // What a line, odd or even, takes at j: of the pairs j and 1024 − j.
 fn numbers_at(window: &[i32], odd: bool, j: usize) -> Numbers
-    requires { ⌜ Whole (now window) ⌝ }
+    requires { ⌜ InRange (now window) ⌝ }
     requires { ⌜ 1 ≤ j ⌝ }
     requires { ⌜ j < quarterTurn ⌝ }
     ensures { λ r. ⌜ r .cosine ≡ across odd (pairSum (now (window .entry)) j) (pairSum (now (window .entry)) (1024 - j)) ⌝ }
@@ -98,7 +98,7 @@ fn numbers_at(window: &[i32], odd: bool, j: usize) -> Numbers
 
 // The sums over j = 1..511.
 fn sums_across(window: &[i32], quarter: &[u32; QUARTER_TURN + 1], k: usize) -> Sums
-    requires { ⌜ Whole (now window) ⌝ }
+    requires { ⌜ InRange (now window) ⌝ }
     requires { ⌜ now quarter ≡ quarterList ⌝ }
     requires { ⌜ k < lineLimit ⌝ }
     ensures { λ r. ⌜ r .cosine ≡ sumTo 511 (λ i. cosineAcross (now (window .entry)) k (1 + i) *ℤ tableCosine ((1 + i) * k)) ⌝ }
@@ -119,7 +119,7 @@ fn sums_across(window: &[i32], quarter: &[u32; QUARTER_TURN + 1], k: usize) -> S
 
 // Both sums of a line: those, and the samples that are left over, 0 with 1024 and 512 with 1536.
 fn whole_sums(window: &[i32], quarter: &[u32; QUARTER_TURN + 1], k: usize) -> Sums
-    requires { ⌜ Whole (now window) ⌝ }
+    requires { ⌜ InRange (now window) ⌝ }
     requires { ⌜ now quarter ≡ quarterList ⌝ }
     requires { ⌜ k < lineLimit ⌝ }
     ensures { λ r. ⌜ r .cosine ≡ lineSum tableCosine (now (window .entry)) k ⌝ }
@@ -141,7 +141,7 @@ fn whole_sums(window: &[i32], quarter: &[u32; QUARTER_TURN + 1], k: usize) -> Su
 
 // Line k of the window.
 pub(crate) fn line_alone(window: &[i32], quarter: &[u32; QUARTER_TURN + 1], k: usize) -> u64
-    requires { ⌜ Whole (now window) ⌝ }
+    requires { ⌜ InRange (now window) ⌝ }
     requires { ⌜ now quarter ≡ quarterList ⌝ }
     requires { ⌜ k < lineLimit ⌝ }
     ensures { λ r. ⌜ r ≡ lineOf (now (window .entry)) k ⌝ }

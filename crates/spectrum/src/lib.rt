@@ -16,8 +16,8 @@ ghost use lib.Dec.{ltb};
 ghost use lib.ListN.{length};
 ghost use Rattle.sine.specs.Wave.{quarterList};
 ghost use Rattle.spectrum.specs.Line.{lineLimit, linesFrom};
-ghost use Rattle.spectrum.specs.Spectrum.{windowRefusal, spectrumRefusal, spectrumExit, linesFromRefusal, linesFromExit};
-ghost use Rattle.spectrum.specs.Prepared.{Whole, Prepared, LinesOfFolded, windowExit};
+ghost use Rattle.spectrum.specs.Spectrum.{InRange, windowRefusal, spectrumRefusal, spectrumExit, linesFromRefusal, linesFromExit};
+ghost use Rattle.spectrum.specs.Prepared.{Prepared, LinesOfFolded, windowExit};
 use alone::line_alone;
 use folding::fold_window;
 use refusals::NO_REFUSAL;
@@ -52,7 +52,7 @@ fn fill_lines(folded: &[i32], wave: &[i32; TURN], first: usize, lines: &mut [u64
 
 // Writes a window's lines from `first` on, as many as the buffer holds, each by itself.
 fn fill_alone(window: &[i32], quarter: &[u32; QUARTER_TURN + 1], first: usize, lines: &mut [u64])
-    requires { ⌜ Whole (now window) ⌝ }
+    requires { ⌜ InRange (now window) ⌝ }
     requires { ⌜ now quarter ≡ quarterList ⌝ }
     requires { ⌜ first + length (now lines) ≤ lineLimit ⌝ }
     ensures { λ _. ⌜ now (lines .exit) ≡ linesFrom first (length (now (lines .entry))) (now (window .entry)) ⌝ }
@@ -134,15 +134,16 @@ pub fn lines_from(recording: &[i32], start: usize, first: usize, lines: &mut [u6
     )
 }
 
-// The same with little scratch, the quarter wave alone: for a few lines, each of which then takes longer.
-pub fn few_lines(recording: &[i32], start: usize, first: usize, lines: &mut [u64]) -> u32
+// The same with little scratch, the quarter wave alone: each line is worked by itself, and takes longer.
+pub fn lines_alone(recording: &[i32], start: usize, first: usize, lines: &mut [u64]) -> u32
     ensures { λ r. ⌜ r ≡ linesFromRefusal (now (recording .entry)) start first (now (lines .entry)) ⌝ }
     ensures { λ _. ⌜ now (lines .exit) ≡ linesFromExit (now (recording .entry)) start first (now (lines .entry)) ⌝ }
 {
     let refusal = window_refusal(recording, start, reach_past(first, lines.len()));
-    if refusal == NO_REFUSAL {
-        let quarter = sine::quarter_wave();
-        fill_alone(window_at(recording, start), &quarter, first, lines);
+    if refusal != NO_REFUSAL {
+        return refusal;
     }
+    let quarter = sine::quarter_wave();
+    fill_alone(window_at(recording, start), &quarter, first, lines);
     refusal
 }

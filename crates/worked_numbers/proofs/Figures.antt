@@ -15,7 +15,7 @@ use borrow.Author.Tests.{lt-ltb, le-ltb}
 use Rattle.algebra.specs.Fraction.{Fraction, whole, times, divide, square, sumᶠ, _+ᶠ_}
 use Rattle.refusals.specs.declared.Answer.{Answer}
 use Rattle.spectrum.specs.Line.{windowAt, lineOf, linesOf}
-use Rattle.spectrum.specs.Spectrum.{spectrumRefusal, spectrumExit}
+use Rattle.spectrum.specs.Spectrum.{InRange, spectrumRefusal, spectrumExit}
 use Rattle.groups.specs.declared.Kind.{Kind}
 use Rattle.groups.specs.declared.Kind.the-variants.{HarmonicGroup}
 use Rattle.groups.specs.Spans.{Weighted, totalTwiceWeight}
@@ -42,7 +42,7 @@ use Rattle.verdict.specs.declared.Verdict.the-variants.{Within, Close, Over}
 use Rattle.verdict.specs.Question.{asked}
 use Rattle.verdict.specs.Limit.{limitInUnits, peakLimitInUnits}
 use Rattle.three_seconds.specs.ThreeSecond.{threeSecondOf, threeSecondAnswer}
-use Rattle.accuracy.specs.Distance.{InRange, WithinMargin, WeightsNear, GroupsNear}
+use Rattle.accuracy.specs.Distance.{WithinMargin, WeightsNear, GroupsNear}
 use Rattle.accuracy.specs.CallList.{CallList, after, acceptedRows, state}
 use Rattle.accuracy.specs.WorkedRows.{Sampled, SampledRows}
 use Rattle.accuracy.specs.LatestRows.{exactThreeSecond, lastRows, LatestHolds}
@@ -141,6 +141,18 @@ called-panel-worked recording start setup lines before asked =
           let near = panel .near order least most in
           (omega (arith, near .not-far-below), omega (arith, near .not-far-above)),
     )
+
+-- and those of kifsang_spectrum, with 512 lines, and kifsang_row, with 40 values, of kind 1
+called-panel-is-row :
+    (recording : List ℤ) (start : ℕ) (setup : Setup) (lines before all values : List ℕ) →
+    panelCallRefusal setup recording start lines before ≡ 0 →
+    length all ≡ 512 →
+    length values ≡ 40 →
+    (spectrumRefusal recording start all ≡ 0) ×
+    (rowCallRefusal 1 setup (spectrumExit recording start all) values ≡ 0) ×
+    (panelCallValuesExit setup recording start lines before ≡ rowCallExit 1 setup (spectrumExit recording start all) values)
+called-panel-is-row recording start setup lines before all values asked whole count =
+    exported-demand3 .panels recording start setup lines before asked .same-row all values whole count
 
 -- ---- the setup
 

@@ -2,7 +2,7 @@
 use mathlib.Core.Bool.{true}
 use mathlib.Core.List.{List, _∷_}
 use mathlib.Core.Path.{_≡_, refl, ap, ap₂, _∙_}
-use Prim.Native.Nat.{ℕ, _+_}
+use Prim.Native.Nat.{ℕ, suc, _+_}
 use native.Mathlib.Omega.{arith}
 use lib.ListN.{replicate}
 use Rattle.algebra.specs.Largest.{largest}
@@ -39,11 +39,11 @@ pulse-row system edition first value known at-first alike =
     ∙ ap₂ _∷_
     (ap (λ (a : Answer). a .value) (pulse-group HarmonicGroup setup 1 first known at-first (order-of-place 0 (omega arith))))
     (tabulate-same 39 _ value (λ i below.
-    let order = Prim.Native.Nat.suc i + 1 in
+    let order = suc i + 1 in
     ap (λ (a : Answer). a .value)
     (pulse-group HarmonicGroup setup order value known
     (rw (weightsOf-above HarmonicGroup system edition order (λ e. omega arith)) (alike order))
-    (order-of-place (Prim.Native.Nat.suc i) (omega arith)))))
+    (order-of-place (suc i) (omega arith)))))
 
 -- the call
 abbrev Called : ℕ → ℕ → List ℕ → Type 0

@@ -14,6 +14,7 @@ use Rattle.integers.specs.Root.{rootOf}
 use Rattle.sine.specs.ExactSine.{factorial, denominator, term, added, takenAway, quarterSine}
 use Rattle.sine.specs.Wave.{tableEntry}
 use Rattle.spectrum.specs.Line.{lineCount, lineOf, linesOf}
+use Rattle.spectrum.specs.Spectrum.{InRange}
 use Rattle.spectrum.proofs.Lines.{getD-linesOf}
 use Rattle.spectrum.proofs.Pulse as Pulse
 use Rattle.spectrum.proofs.Pulse.{pulse-line}
@@ -44,7 +45,6 @@ use Rattle.observation.specs.Average.{averageOf, peakOf}
 use Rattle.columns.specs.Text.{bytesOf}
 use Rattle.columns.specs.Column.{areDigits, isWhole, placeValue, wholeNumber, negativeNumber, signedNumber, afterBlanks, columnNumber}
 use Rattle.columns.specs.Calls.{columnReadAnswer}
-use Rattle.accuracy.specs.Distance.{InRange}
 use Rattle.accuracy.proofs.GroupDistance.{lines-accepted, lines-of-group}
 use Rattle.worked_numbers.specs.Cases.{pulse, rowOf, afterRows, groupUnderA1, cases, casesUnderA1, Holds}
 

@@ -1,7 +1,7 @@
 //! The recordings of `examples/recordings`, judged by the core in both classes as the script beside them says,
-//! under each edition. Their records are the second program's.
+//! under each edition. Their records are the second program's, and so are the panel's rows of their windows.
 
-use crate::{setup, Tally};
+use crate::{panel, setup, Tally};
 use kifsang::{Kind, Verdict, CLASS_A, CLASS_B, EDITION_2, EDITION_A1};
 use kifsang::{ORDER_COUNT, RECORD_WORDS, WINDOW_LENGTH};
 use reference::observe::observe;
@@ -10,16 +10,21 @@ use reference::words::words_of;
 /// 4,000 counts per ampere, 4,096 units in a count.
 const UNITS_PER_AMPERE: u32 = 4_000 * 4_096;
 
-/// The record of a recording under an edition.
-fn record_of(tally: &mut Tally, name: &str, edition: u32) -> [u64; RECORD_WORDS] {
+/// The system and the samples of a recording.
+fn read(name: &str) -> (u32, Vec<i32>) {
     let path = format!("examples/recordings/{name}.txt");
     let text = std::fs::read(path).expect("the recording");
     let numbers: Vec<i64> = text
         .chunks(9)
         .map(|line| kifsang::read_column(&line[..8]).expect("a column"))
         .collect();
-    let system = numbers[0] as u32;
-    let samples: Vec<i32> = numbers[1..].iter().map(|&number| number as i32).collect();
+    let samples = numbers[1..].iter().map(|&number| number as i32).collect();
+    (numbers[0] as u32, samples)
+}
+
+/// The record of a recording under an edition.
+fn record_of(tally: &mut Tally, name: &str, edition: u32) -> [u64; RECORD_WORDS] {
+    let (system, samples) = read(name);
     let windows = samples.len() / WINDOW_LENGTH;
     let mut record = [0; RECORD_WORDS];
     kifsang::observe(
@@ -60,6 +65,10 @@ fn over_and_close(
 }
 
 pub fn compare(tally: &mut Tally) {
+    for name in ["heater_passes", "dimmer", "supply_fails"] {
+        let (_, samples) = read(name);
+        panel::compare_windows(tally, name, &samples, 0, samples.len() / WINDOW_LENGTH);
+    }
     for edition in [EDITION_2, EDITION_A1] {
         let [a, b] = [CLASS_A, CLASS_B].map(|class_letter| {
             for name in ["heater_passes", "dimmer"] {

@@ -119,14 +119,12 @@ pub fn compare(tally: &mut Tally, seed: u64) {
     for count in [0, 1, 2, 3, windows] {
         compare_kinds(tally, &recording, start, count);
     }
-    for window in 0..=windows {
-        let place = start + window * WINDOW_LENGTH;
-        panel::compare_window(tally, "windows back to back", &recording, place);
-    }
+    panel::compare_windows(tally, "windows back to back", &recording, start, windows);
 
     // A bad sample in each window, first, last and between; windows are taken up to it, and one that is
     // short comes after it.
     let good = signals::noise(length, 131_071, random.bits()).samples;
+    panel::compare_windows(tally, "noise back to back", &good, 0, windows);
     for window in 0..windows {
         let between = 1 + random.below(WINDOW_LENGTH as u64 - 2) as usize;
         for (place, sample) in [
@@ -135,6 +133,7 @@ pub fn compare(tally: &mut Tally, seed: u64) {
             (WINDOW_LENGTH - 1, -131_072),
         ] {
             let bad = with_sample(&good, window * WINDOW_LENGTH + place, sample);
+            panel::compare_window(tally, "a bad sample", &bad, window * WINDOW_LENGTH);
             let asked = Asked {
                 start: 0,
                 windows,

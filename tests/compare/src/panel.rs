@@ -45,7 +45,11 @@ fn compare_panel_row(
     tally.same(&what, core, other);
     if answer.is_ok() {
         let chained = chain(recording, start, setup);
-        tally.same(&what, chained.as_ref().map(|row| &row[..]), Ok(&values[1..=ORDER_COUNT]));
+        tally.same(
+            &what,
+            chained.as_ref().map(|row| &row[..]),
+            Ok(&values[1..=ORDER_COUNT]),
+        );
     }
 }
 
@@ -54,6 +58,19 @@ pub fn compare_window(tally: &mut Tally, name: &str, recording: &[i32], start: u
     let panel = &mut Panel::begin();
     for setup in Setup::ALL {
         compare_panel_row(tally, panel, name, recording, start, (setup, PANEL_LINES));
+    }
+}
+
+/// Windows back to back from a start, and the one after them.
+pub fn compare_windows(
+    tally: &mut Tally,
+    name: &str,
+    recording: &[i32],
+    start: usize,
+    windows: usize,
+) {
+    for window in 0..=windows {
+        compare_window(tally, name, recording, start + window * WINDOW_LENGTH);
     }
 }
 

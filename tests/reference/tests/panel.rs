@@ -1,7 +1,8 @@
 //! The panel's row (document 02, card 6): that it is the row of the harmonic groups, and
 //! that 13 lines are enough for each of them; what the buffer holds; the edges; and every
-//! set of faults.
+//! set of faults; and what the panel of `examples/c` shows.
 
+use reference::distortion::distortion;
 use reference::groups::{Kind, group_row, weighted_lines};
 use reference::largest::root;
 use reference::panel::{PANEL_LINES, Panel, panel_row};
@@ -200,4 +201,46 @@ fn first_of_any_faults_decides() {
             assert_eq!(refusal(&window, start, setup, line_count), expected, "{faults:05b}");
         }
     }
+}
+
+/// A window of `examples/c/panel.c`: the current flows about the crests alone, forward in the first half of a
+/// cycle and backward in the second, and a converter of 18 bits stays at its ends.
+fn supply_current(amperes: i32, resting: usize) -> Vec<i32> {
+    (0..WINDOW_LENGTH)
+        .map(|place| {
+            let part = 12 * 12 * place / WINDOW_LENGTH;
+            let flows = (resting..6 - resting).contains(&(part % 6));
+            let sign = [1, -1][part / 6 % 2];
+            (1_600 * amperes * sign * i32::from(flows)).clamp(-131_072, 131_071)
+        })
+        .collect()
+}
+
+#[test]
+fn the_front_panel_shows_these_values() {
+    let repository = std::path::Path::new(env!("CARGO_MANIFEST_DIR")).join("../..");
+    let printed = std::fs::read_to_string(repository.join("examples/c/panel.txt")).unwrap();
+    let mut expected =
+        String::from("window  1, mA      3      5      7      9     11  distortion, %\n");
+    for (window, (amperes, resting)) in
+        [(0, 0), (90, 1), (14, 1), (8, 1), (3, 2)].into_iter().enumerate()
+    {
+        let mut lines = [0; PANEL_LINES];
+        let samples = supply_current(amperes, resting);
+        let (row, refusal) = panel_row(&samples, 0, Setup::edition_a1(12), &mut lines);
+        expected.push_str(&format!("{:6}", window + 1));
+        if let Some(refusal) = refusal {
+            expected.push_str(&format!("     refused {:2}\n", refusal as u32));
+            continue;
+        }
+        for order in (1..=11).step_by(2) {
+            let milliamperes = f64::from(row.values[order - 1]) / (1.6 * 4_096.0);
+            expected.push_str(&format!("  {milliamperes:5.0}"));
+        }
+        match distortion(&row.values) {
+            Ok(parts) => expected.push_str(&format!("  {:13.1}\n", parts as f64 / 10.0)),
+            Err(refusal) => expected.push_str(&format!("     refused {:2}\n", refusal as u32)),
+        }
+    }
+    assert_eq!(printed, expected);
 }

@@ -1,4 +1,4 @@
--- `groups::panel::clear` meets its contract. The loop's invariant: the buffer keeps its length, and its first i lines are 0. The measure is what is left of the buffer.
+-- `groups::panel::clear` meets its contract. The loop's invariant: the buffer keeps its length, and the lines before the place are 0. The measure is what is left of the buffer.
 use mathlib.Core.Path.{_≡_, refl, _∙_}
 use Prim.Native.Nat.{_-_, _≤_}
 use native.Mathlib.Omega.{arith}
@@ -11,10 +11,10 @@ use Rattle.groups.proofs.panel.clear.Statement.{statement}
 use Rattle.groups.proofs.panel.clear.Tie as tie
 
 abbrev Inv-loop : tie.InvT-loop
-Inv-loop lines₀ i₀ lines i = (i ≤ length lines₀) × (length lines ≡ length lines₀) × Filled i (λ k. 0) lines₀ lines
+Inv-loop lines₀ place₀ lines place = (place ≤ length lines₀) × (length lines ≡ length lines₀) × Filled place (λ k. 0) lines₀ lines
 
 abbrev μ-loop : tie.MeasureT-loop
-μ-loop lines₀ i₀ lines i = length lines₀ - i
+μ-loop lines₀ place₀ lines place = length lines₀ - place
 
 loop-holds : tie.Need-loop-holds Inv-loop μ-loop
 unfolding tabulate
@@ -27,7 +27,7 @@ returns : tie.Need-returns Inv-loop μ-loop
 returns c =
     let at = c .before in
     let lines = at .before .args .lines .now in
-    let end : at .loop .i ≡ length lines = omega arith in
+    let end : at .loop .place ≡ length lines = omega arith in
     filled-whole (length lines) (λ k. 0) lines _ (rw end at (at .loop .inv .2)) refl ∙ tabulate-same (length lines) (λ k. 0) 0 (λ k below. refl)
 
 pub clear-spec : {M : Type 1} → statement M

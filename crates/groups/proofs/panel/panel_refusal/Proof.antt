@@ -6,7 +6,7 @@ use Rattle.groups.proofs.panel.panel_refusal.Tie as tie
 
 returns : tie.Need-returns
 unfolding windowRefusal
-returns c = cc
+returns c = rw (← c .before .window-refusal .ensures) (c .setup-fault-or .ensures)
 
 pub panel-refusal-spec : {M : Type 1} → statement M
 panel-refusal-spec = tie.close (tie.spec (λ c κs. search needs) (λ c κs. search needs) returns)

@@ -20,7 +20,7 @@ use Rattle.groups.specs.declared.Kind.the-variants.{HarmonicGroup}
 use Rattle.groups.specs.Group.{lineAt, groupRefusal, groupAnswer, groupValues}
 use Rattle.groups.specs.Panel.{panelLineCount, firstLine}
 use Rattle.groups.proofs.GroupSum.{groupRefusal-of-place, accepted-value, windowRow-accepted}
-use Rattle.groups.proofs.PanelLines.{PanelAccepted, panel-accepted, panelRefusal-length, holds-more, few-left, firstLine-end}
+use Rattle.groups.proofs.PanelLines.{PanelAccepted, panel-accepted, panelRefusal-length, holds-more, lines-alone-left, firstLine-end}
 use Rattle.groups.proofs.panel.panel_values.Statement.{statement}
 use Rattle.groups.proofs.panel.panel_values.Tie as tie
 
@@ -48,10 +48,10 @@ module _ (c : tie.Start Inv-loop μ-loop) where
   order-taken : (i : ℕ) → i < orderCount → groupRefusal (c .args .setup) (i + 1) (linesOf window) ≡ noRefusal
   order-taken i inside =
       groupRefusal-of-place (c .args .setup) i (linesOf window) inside
-      ∙ windowRow-accepted (c .args .setup) window (accepted .known-setup) (accepted .in-range)
+      ∙ windowRow-accepted (c .args .setup) window (accepted .known-setup) (accepted .in-range .samples)
 
 -- the buffer when the first line of all has been worked
-module _ (c : tie.After-few-lines Inv-loop μ-loop) where
+module _ (c : tie.After-lines-alone Inv-loop μ-loop) where
   abbrev start : tie.Start Inv-loop μ-loop
   start = c .before .before .before .before
 
@@ -64,17 +64,17 @@ module _ (c : tie.After-few-lines Inv-loop μ-loop) where
   part-length : length (midOf 0 1 held) ≡ 1
   part-length = mid-len 0 1 held (omega (arith, accepted start .line-count))
 
-  line-is : c .few-lines .last .1 .1 .1 .0 ≡ linesFrom first 1 (window start)
+  line-is : c .lines-alone .last .1 .1 .1 .0 ≡ linesFrom first 1 (window start)
   line-is =
-      c .few-lines .ensures .1
-      ∙ few-left (start .args .setup) (start .args .recording .now) (start .args .start) held (accepted start) _ 1 _ part-length
+      c .lines-alone .ensures .1
+      ∙ lines-alone-left (start .args .setup) (start .args .recording .now) (start .args .start) held (accepted start) _ 1 _ part-length
       (omega (arith, c .before .before .first-line .ensures, firstLine-end (start .args .setup) 1 (accepted start .known-setup) (order-of-place 0 (omega arith))))
       ∙ ap (λ k. linesFrom k 1 (window start)) (c .before .before .first-line .ensures)
 
-  first-there : lineAt (putMid 0 1 held (c .few-lines .last .1 .1 .1 .0)) 0 ≡ lineOf (window start) first
+  first-there : lineAt (putMid 0 1 held (c .lines-alone .last .1 .1 .1 .0)) 0 ≡ lineOf (window start) first
   first-there =
       let here : first + 0 ≡ first = omega arith in
-      holds-more (window start) first 0 1 1 held (c .few-lines .last .1 .1 .1 .0) (postOf 0 1 held)
+      holds-more (window start) first 0 1 1 held (c .lines-alone .last .1 .1 .1 .0) (postOf 0 1 held)
       refl
       (omega arith)
       (rw here line-is)
@@ -83,9 +83,9 @@ module _ (c : tie.After-few-lines Inv-loop μ-loop) where
       (omega arith)
       ∙ ap (lineOf (window start)) here
 
-  kept-length : length (putMid 0 1 held (c .few-lines .last .1 .1 .1 .0)) ≡ panelLineCount
+  kept-length : length (putMid 0 1 held (c .lines-alone .last .1 .1 .1 .0)) ≡ panelLineCount
   kept-length =
-      same-len-mid 0 1 held (c .few-lines .last .1 .1 .1 .0) (ap length line-is ∙ length-linesFrom first 1 (window start) ∙ sym part-length)
+      same-len-mid 0 1 held (c .lines-alone .last .1 .1 .1 .0) (ap length line-is ∙ length-linesFrom first 1 (window start) ∙ sym part-length)
       ∙ accepted start .line-count
 
 loop-holds : tie.Need-loop-holds Inv-loop μ-loop

@@ -13,7 +13,7 @@ use Rattle.rows.proofs.Systems.{SystemBounds, system-bounds}
 use Rattle.spectrum.specs.Line.{lineCount, windowAt, lineOf, linesFrom}
 use Rattle.spectrum.proofs.Lines.{length-linesFrom}
 use Rattle.groups.specs.Panel.{panelLineCount, firstLine}
-use Rattle.groups.proofs.PanelLines.{PanelAccepted, panel-accepted, Holds, holds-more, few-left, firstLine-next, firstLine-end, panel-sum-lt, panel-value}
+use Rattle.groups.proofs.PanelLines.{PanelAccepted, panel-accepted, Holds, holds-more, lines-alone-left, firstLine-next, firstLine-end, panel-sum-lt, panel-value}
 use Rattle.groups.proofs.panel.work_group.Statement.{statement}
 use Rattle.groups.proofs.panel.work_group.Tie as tie
 
@@ -29,7 +29,7 @@ module _ (c : tie.Start) where
   end-le = firstLine-end (c .args .setup) (c .args .order) (accepted .known-setup) (c .pre .1 .0)
 
 -- the buffer when the lines after the first have been worked
-module _ (c : tie.After-few-lines) where
+module _ (c : tie.After-lines-alone) where
   abbrev start : tie.Start
   start = c .before .before .before .before .before
 
@@ -46,21 +46,21 @@ module _ (c : tie.After-few-lines) where
   held = start .args .lines .now
 
   abbrev worked : List ℕ
-  worked = putMid 1 (n + 1 - 1) held (c .few-lines .last .1 .1 .1 .0)
+  worked = putMid 1 (n + 1 - 1) held (c .lines-alone .last .1 .1 .1 .0)
 
   part-length : length (midOf 1 (n + 1 - 1) held) ≡ n
   part-length = let less : n + 1 - 1 ≡ n = omega arith in mid-len 1 (n + 1) held (omega (arith, system start .most, accepted start .line-count)) ∙ less
 
-  lines-are : c .few-lines .last .1 .1 .1 .0 ≡ linesFrom (first + 1) n window
+  lines-are : c .lines-alone .last .1 .1 .1 .0 ≡ linesFrom (first + 1) n window
   lines-are =
-      c .few-lines .ensures .1
-      ∙ few-left (start .args .setup) (start .args .recording .now) (start .args .start) held (accepted start) _ n _ part-length
+      c .lines-alone .ensures .1
+      ∙ lines-alone-left (start .args .setup) (start .args .recording .now) (start .args .start) held (accepted start) _ n _ part-length
       (omega (arith, c .before .before .first-line .ensures, end-le start))
       ∙ ap (λ k. linesFrom (k + 1) n window) (c .before .before .first-line .ensures)
 
   all-lines : Holds window first (n + 1) worked
   all-lines =
-      holds-more window first 1 n (n + 1) held (c .few-lines .last .1 .1 .1 .0) (postOf 1 (n + 1 - 1) held)
+      holds-more window first 1 n (n + 1) held (c .lines-alone .last .1 .1 .1 .0) (postOf 1 (n + 1 - 1) held)
       (omega arith)
       (omega (arith, accepted start .line-count))
       lines-are
@@ -71,15 +71,15 @@ module _ (c : tie.After-few-lines) where
 
   worked-length : length worked ≡ panelLineCount
   worked-length =
-      same-len-mid 1 (n + 1 - 1) held (c .few-lines .last .1 .1 .1 .0) (ap length lines-are ∙ length-linesFrom (first + 1) n window ∙ sym part-length)
+      same-len-mid 1 (n + 1 - 1) held (c .lines-alone .last .1 .1 .1 .0) (ap length lines-are ∙ length-linesFrom (first + 1) n window ∙ sym part-length)
       ∙ accepted start .line-count
 
-abbrev few : tie.After-panel-value-arg → tie.After-few-lines
-few c = c .before .before .before
+abbrev worked-at : tie.After-panel-value-arg → tie.After-lines-alone
+worked-at c = c .before .before .before
 
 panel-value-requires : tie.Need-panel-value-requires
 panel-value-requires c κs =
-    let f = few c in
+    let f = worked-at c in
     let s = start f in
     let call = accepted s in (
       call .known-setup,
@@ -95,7 +95,7 @@ panel-value-requires c κs =
 returns : tie.Need-returns
 returns c =
     let value = c .before in
-    let f = few (value .before) in
+    let f = worked-at (value .before) in
     let s = start f in
     let call = accepted s in (
       value .panel-value .ensures
@@ -118,8 +118,8 @@ work-group-spec =
     (λ c. omega (arith, system (c .before .before .before) .most, accepted (c .before .before .before) .line-count))
     (λ c κs. search needs)
     panel-value-requires
-    (λ c. omega (arith, system (start (few (c .before))) .most))
-    (λ c. omega (arith, system (start (few (c .before .before))) .most, worked-length (few (c .before .before))))
-    (λ c. omega (arith, worked-length (few (c .before .before))))
+    (λ c. omega (arith, system (start (worked-at (c .before))) .most))
+    (λ c. omega (arith, system (start (worked-at (c .before .before))) .most, worked-length (worked-at (c .before .before))))
+    (λ c. omega (arith, worked-length (worked-at (c .before .before))))
     (λ c. search needs)
     returns)

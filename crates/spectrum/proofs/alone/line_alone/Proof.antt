@@ -18,10 +18,10 @@ module _ (c : tie.After-whole-sums) where
   start = c .before
 
   cosine-small : natAbs (lineSum tableCosine (start .args .window .now) (start .args .k)) < 2 ^ 58
-  cosine-small = lineSum-le (start .args .window .now) (start .pre .0 .in-range) tableCosine tableCosine-le (start .args .k)
+  cosine-small = lineSum-le (start .args .window .now) (start .pre .0 .samples) tableCosine tableCosine-le (start .args .k)
 
   sine-small : natAbs (lineSum tableSine (start .args .window .now) (start .args .k)) < 2 ^ 58
-  sine-small = lineSum-le (start .args .window .now) (start .pre .0 .in-range) tableSine tableSine-le (start .args .k)
+  sine-small = lineSum-le (start .args .window .now) (start .pre .0 .samples) tableSine tableSine-le (start .args .k)
 
   -- the sums as the machine reads them back from their bits
   cosine-is : toZ w64 (ofZ w64 (c .whole-sums .result .cosine)) ≡ lineSum tableCosine (start .args .window .now) (start .args .k)
@@ -43,7 +43,7 @@ returns c =
 add-result : tie.Need-add-result
 add-result c =
     let entry = start (c .before .before .before .before) in
-    record { fits = rw (returns c) (omega (arith, line-le (entry .args .window .now) (entry .pre .0 .in-range) (entry .args .k))) }
+    record { fits = rw (returns c) (omega (arith, line-le (entry .args .window .now) (entry .pre .0 .samples) (entry .args .k))) }
 
 pub line-alone-spec : {M : Type 1} → statement M
 line-alone-spec =

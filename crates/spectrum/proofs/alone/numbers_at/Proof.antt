@@ -22,10 +22,10 @@ module _ (c : tie.After-pair-at2) where
   j = start .args .j
 
   sum-small : (p : ℕ) → natAbs (pairSum (start .args .window .now) p) < 2 ^ 30
-  sum-small p = omega (arith, pairSum-small (start .args .window .now) (start .pre .0 .in-range) p)
+  sum-small p = omega (arith, pairSum-small (start .args .window .now) (start .pre .0 .samples) p)
 
   difference-small : (p : ℕ) → natAbs (pairDifference (start .args .window .now) p) < 2 ^ 30
-  difference-small p = omega (arith, pairDifference-small (start .args .window .now) (start .pre .0 .in-range) p)
+  difference-small p = omega (arith, pairDifference-small (start .args .window .now) (start .pre .0 .samples) p)
 
   near-sum : toZ w32 (ofZ w32 (c .before .pair-at .result .sum)) ≡ pairSum (start .args .window .now) j
   near-sum = read-as w32 _ _ (c .before .pair-at .ensures .0) (omega (arith, sum-small j))

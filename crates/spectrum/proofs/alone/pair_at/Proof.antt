@@ -24,10 +24,10 @@ module _ (c : tie.After-far) where
   far-read = toZ-ofZ w32 _ (record { sfits = c .far .given })
 
   near-small : natAbs (toZ w32 (ofZ w32 (heldBy (start .args .window .now) (start .args .j)))) < 2 ^ 30
-  near-small = rw near-read (omega (arith, sample-le (start .args .window .now) (start .pre .0 .in-range) (start .args .j)))
+  near-small = rw near-read (omega (arith, sample-le (start .args .window .now) (start .pre .0 .samples) (start .args .j)))
 
   far-small : natAbs (toZ w32 (ofZ w32 (heldBy (start .args .window .now) (windowLength - start .args .j)))) < 2 ^ 30
-  far-small = rw far-read (omega (arith, sample-le (start .args .window .now) (start .pre .0 .in-range) (windowLength - start .args .j)))
+  far-small = rw far-read (omega (arith, sample-le (start .args .window .now) (start .pre .0 .samples) (windowLength - start .args .j)))
 
 returns : tie.Need-returns
 returns c =
@@ -41,10 +41,10 @@ pair-at-spec =
     tie.close
     (tie.spec
     (λ c. omega arith)
-    (λ c. omega (arith, c .pre .0 .long))
+    (λ c. omega (arith, c .pre .0 .whole-window))
     (λ c. omega arith)
     (λ c. omega arith)
-    (λ c. omega (arith, c .before .pre .0 .long))
+    (λ c. omega (arith, c .before .pre .0 .whole-window))
     (λ c κs. (near-small c, far-small c))
     (λ c κs. (near-small (c .before), far-small (c .before)))
     returns)

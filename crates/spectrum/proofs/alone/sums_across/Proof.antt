@@ -58,12 +58,12 @@ module _ (c : tie.At-loop Inv-loop μ-loop) where
   cosine-small : natAbs (toZ w64 (c .loop .cosine)) < 2 ^ 62
   cosine-small =
       rw (c .loop .inv .2)
-      (omega (arith, quarter-sum-small (cosineAcross window k) (λ p. tableCosine (p * k)) (cosineAcross-small window (start .pre .0 .in-range) k) (λ p. tableCosine-le (p * k)) (j - 1) (omega (arith, c .loop .inv .1))))
+      (omega (arith, quarter-sum-small (cosineAcross window k) (λ p. tableCosine (p * k)) (cosineAcross-small window (start .pre .0 .samples) k) (λ p. tableCosine-le (p * k)) (j - 1) (omega (arith, c .loop .inv .1))))
 
   sine-small : natAbs (toZ w64 (c .loop .sine)) < 2 ^ 62
   sine-small =
       rw (c .loop .inv .3)
-      (omega (arith, quarter-sum-small (sineAcross window k) (λ p. tableSine (p * k)) (sineAcross-small window (start .pre .0 .in-range) k) (λ p. tableSine-le (p * k)) (j - 1) (omega (arith, c .loop .inv .1))))
+      (omega (arith, quarter-sum-small (sineAcross window k) (λ p. tableSine (p * k)) (sineAcross-small window (start .pre .0 .samples) k) (λ p. tableSine-le (p * k)) (j - 1) (omega (arith, c .loop .inv .1))))
 
 -- the numbers of a place, as the machine reads them back from their bits
 module _ (c : tie.After-numbers-at Inv-loop μ-loop) where
@@ -73,12 +73,12 @@ module _ (c : tie.After-numbers-at Inv-loop μ-loop) where
   cosine-number : toZ w32 (ofZ w32 (c .numbers-at .result .cosine)) ≡ cosineAcross (window at) (k at) (j at)
   cosine-number =
       read-as w32 _ _ (rw (at .before .is-odd .ensures) at (c .numbers-at .ensures .0))
-      (omega (arith, cosineAcross-small (window at) (start at .pre .0 .in-range) (k at) (j at)))
+      (omega (arith, cosineAcross-small (window at) (start at .pre .0 .samples) (k at) (j at)))
 
   sine-number : toZ w32 (ofZ w32 (c .numbers-at .result .sine)) ≡ sineAcross (window at) (k at) (j at)
   sine-number =
       read-as w32 _ _ (rw (at .before .is-odd .ensures) at (c .numbers-at .ensures .1))
-      (omega (arith, sineAcross-small (window at) (start at .pre .0 .in-range) (k at) (j at)))
+      (omega (arith, sineAcross-small (window at) (start at .pre .0 .samples) (k at) (j at)))
 
 loop-again : tie.Need-loop-again Inv-loop μ-loop
 loop-again c =

@@ -36,10 +36,10 @@ module _ (c : tie.After-sums-across) where
   sineSum = sumTo 511 (λ i. sineAcross window k (1 + i) *ℤ tableSine ((1 + i) * k))
 
   cosine-small : natAbs cosineSum < 2 ^ 58
-  cosine-small = quarter-sum-small (cosineAcross window k) (λ p. tableCosine (p * k)) (cosineAcross-small window (start .pre .0 .in-range) k) (λ p. tableCosine-le (p * k)) 511 (omega arith)
+  cosine-small = quarter-sum-small (cosineAcross window k) (λ p. tableCosine (p * k)) (cosineAcross-small window (start .pre .0 .samples) k) (λ p. tableCosine-le (p * k)) 511 (omega arith)
 
   sine-small : natAbs sineSum < 2 ^ 58
-  sine-small = quarter-sum-small (sineAcross window k) (λ p. tableSine (p * k)) (sineAcross-small window (start .pre .0 .in-range) k) (λ p. tableSine-le (p * k)) 511 (omega arith)
+  sine-small = quarter-sum-small (sineAcross window k) (λ p. tableSine (p * k)) (sineAcross-small window (start .pre .0 .samples) k) (λ p. tableSine-le (p * k)) 511 (omega arith)
 
   cosine-is : toZ w64 (ofZ w64 (c .sums-across .result .cosine)) ≡ cosineSum
   cosine-is = read-as w64 (c .sums-across .result .cosine) _ (c .sums-across .ensures .0) (omega (arith, cosine-small))
@@ -63,7 +63,7 @@ module _ (c : tie.After-crossed-arg2) where
 
 crossed-requires : tie.Need-crossed-requires
 crossed-requires c κs =
-    let small = sample-le (window (quarter c)) (start (quarter c) .pre .0 .in-range) in
+    let small = sample-le (window (quarter c)) (start (quarter c) .pre .0 .samples) in
     rw (sample-0 c, sample-1024 c) (omega (arith, small 0), omega (arith, small 1024))
 
 -- the cosine's sum with those
@@ -93,13 +93,13 @@ module _ (c : tie.After-accumulate) where
 
   with-ends-small : natAbs (cosineSum entry +ℤ ends *ℤ tableCosine 0) < 2 ^ 62
   with-ends-small =
-      omega (arith, product-more-small (cosineSum entry) ends (tableCosine 0) (2 ^ 58) (cosine-small entry) (endsAcross-small (window entry) (start entry .pre .0 .in-range) (k entry)) (tableCosine-le 0))
+      omega (arith, product-more-small (cosineSum entry) ends (tableCosine 0) (2 ^ 58) (cosine-small entry) (endsAcross-small (window entry) (start entry .pre .0 .samples) (k entry)) (tableCosine-le 0))
 
   middle-sum : toZ w32 (ofZ w32 (pair .pair-at .result .sum)) ≡ pairSum (window entry) 512
-  middle-sum = read-as w32 _ _ (pair .pair-at .ensures .0) (omega (arith, pairSum-small (window entry) (start entry .pre .0 .in-range) 512))
+  middle-sum = read-as w32 _ _ (pair .pair-at .ensures .0) (omega (arith, pairSum-small (window entry) (start entry .pre .0 .samples) 512))
 
   middle-difference : toZ w32 (ofZ w32 (pair .pair-at .result .difference)) ≡ pairDifference (window entry) 512
-  middle-difference = read-as w32 _ _ (pair .pair-at .ensures .1) (omega (arith, pairDifference-small (window entry) (start entry .pre .0 .in-range) 512))
+  middle-difference = read-as w32 _ _ (pair .pair-at .ensures .1) (omega (arith, pairDifference-small (window entry) (start entry .pre .0 .samples) 512))
 
 accumulate-requires : tie.Need-accumulate-requires
 accumulate-requires c κs =
