@@ -10,9 +10,7 @@ use Rattle.spectrum.proofs.Accepted.{accepted}
 
 module _ (recording : List ℤ) (start : ℕ) (buffer : List ℕ) (taken : spectrumRefusal recording start buffer ≡ noRefusal) where
   pub window-in-range : InRange (windowAt recording start)
-  window-in-range =
-      let call = accepted recording start buffer taken in
-      record { whole-window = call .whole-window; samples = call .in-range }
+  window-in-range = accepted recording start buffer taken .in-range
 
   pub lines-left : spectrumExit recording start buffer ≡ linesOf (windowAt recording start)
   unfolding spectrumExit

@@ -51,10 +51,7 @@ module _
     unfolding windowRow
     observed-row i inside =
         let call = Lines.accepted recording (windowStart start i) _ (calls-accepted setup recording start kind windows i inside accepted .spectrum-accepted) in
-        record {
-          in-range = record { whole-window = call .whole-window; samples = call .in-range };
-          values = refl;
-        }
+        record { in-range = call .in-range; values = refl }
 
     pub observed-worked : WorkedList kind (observedList kind setup recording start windows)
     unfolding WorkedList windowRows

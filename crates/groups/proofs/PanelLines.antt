@@ -53,7 +53,7 @@ panel-accepted setup recording start buffer e =
     record {
       known-setup = isSetup-known setup (not-false _ (system .0)) (not-false _ (edition .0));
       line-count = eqb-true _ _ (not-false _ (window .right-count));
-      in-range = record { whole-window = window .whole-window; samples = window .in-range };
+      in-range = window .in-range;
       window-passed = edition .1;
     }
 

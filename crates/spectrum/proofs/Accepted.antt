@@ -1,4 +1,4 @@
--- What it tells that a call for lines is not refused: the window has all its samples, they are in range, and the buffer's length is one that the call takes.
+-- What it tells that a call for lines is not refused: the window is in range, and the buffer's length is one that the call takes. And every other call for its lines is accepted then, with such a buffer.
 use mathlib.Core.Bool.{Bool, false, not}
 use mathlib.Core.List.{List}
 use mathlib.Core.Path.{_≡_, refl}
@@ -8,15 +8,13 @@ use borrow.Author.Tests.{ltb-false, le-ltb}
 use lib.Dec.{eqb}
 use lib.IntN.{ℤ}
 use lib.ListN.{length, length-take, length-drop}
-use Rattle.algebra.specs.Lists.{anyOf}
 use Rattle.refusals.specs.Numbers.{noRefusal, shortWindow, wrongLineCount, sampleOutOfRange}
 use Rattle.refusals.proofs.Answers.{no-faults}
 use Rattle.spectrum.specs.Line.{windowLength, lineCount, lineLimit, windowAt}
-use Rattle.spectrum.specs.Spectrum.{outOfRange, windowChecks, windowRefusal, spectrumRefusal, linesFromRefusal}
+use Rattle.spectrum.specs.Spectrum.{InRange, windowChecks, windowRefusal, spectrumRefusal, linesFromRefusal}
 
 pub record Accepted (recording : List ℤ) (start : ℕ) (wrongCount : Bool) : Type 0 where
-  pub whole-window : length (windowAt recording start) ≡ windowLength
-  pub in-range : anyOf outOfRange (windowAt recording start) ≡ false
+  pub in-range : InRange (windowAt recording start)
   pub right-count : wrongCount ≡ false
 
 pub window-accepted :
@@ -28,8 +26,7 @@ window-accepted recording start wrongCount passed =
     let no-fault = no-faults (windowChecks recording start wrongCount) refl passed in
     let enough : windowLength ≤ length recording - start = ltb-false _ _ (no-fault shortWindow) in
     record {
-      whole-window = simp (length-take, length-drop) (omega arith);
-      in-range = no-fault sampleOutOfRange;
+      in-range = record { whole-window = simp (length-take, length-drop) (omega arith); samples = no-fault sampleOutOfRange };
       right-count = no-fault wrongLineCount;
     }
 

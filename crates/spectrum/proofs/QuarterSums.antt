@@ -5,13 +5,14 @@ use mathlib.Core.Path.{_≡_, refl, sym, ap, ap₂, _∙_}
 use Prim.Native.Nat.{ℕ, suc, _+_, _-_, _*_, _%_, _^_, _≤_, _<_}
 use native.Mathlib.Nat.{zero-mul, mul-le-mul}
 use native.Mathlib.Omega.{arith}
-use borrow.Author.Tests.{eqb-true, eqb-false}
-use lib.IntN.{ℤ, negℤ, natAbs, _+ℤ_, _-ℤ_, _*ℤ_}
+use borrow.Author.Tests.{eqb-true, eqb-false, not-true, not-false}
+use lib.IntN.{ℤ, negℤ, natAbs, _+ℤ_, _*ℤ_}
 use Rattle.algebra.specs.Lists.{anyOf}
 use Rattle.algebra.specs.Sums.{sumTo}
 use Rattle.algebra.proofs.Integer.{natAbs-*ℤ, natAbs-+ℤ-le, natAbs-negℤ}
 use Rattle.algebra.proofs.Ring.{variable, _⊕_, _⊖_, _⊗_, ⊝_, ring}
 use Rattle.algebra.proofs.SumTo.{sumTo-same, sumTo-pairs, sumTo-natAbs-le}
+use Rattle.sine.specs.Turn.{turn, halfTurn}
 use Rattle.sine.specs.Wave.{fullScale, tableSine, tableCosine}
 use Rattle.spectrum.specs.Line.{windowLength, lineSum}
 use Rattle.spectrum.specs.Spectrum.{largestSample, outOfRange}
@@ -20,32 +21,35 @@ use Rattle.spectrum.proofs.Bounds.{sample-le}
 use Rattle.spectrum.proofs.LineWaves.{cosine-same, cosine-opposite, sine-same, sine-opposite}
 use Rattle.spectrum.proofs.PairedSums.{cosineOverPairs-whole, sineOverPairs-whole}
 
--- two numbers at places where the wave is the same, and where it is opposite
-together : (a b w z : ℤ) → z ≡ w → a *ℤ w +ℤ b *ℤ z ≡ (a +ℤ b) *ℤ w
-together a b w z same =
+-- two numbers at places where a wave is opposite, and where it is the same
+crossed-wave : (turned : Bool) (a b w z : ℤ) → (turned ≡ true → z ≡ negℤ w) → (turned ≡ false → z ≡ w) → a *ℤ w +ℤ b *ℤ z ≡ across turned a b *ℤ w
+crossed-wave true a b w z opposite same =
     let x = variable 0 in let y = variable 1 in let v = variable 2 in
-    rw same (ring (x ⊗ v ⊕ y ⊗ v) ((x ⊕ y) ⊗ v) tt (a ∷ b ∷ w ∷ []))
+    rw (opposite refl) (ring (x ⊗ v ⊕ y ⊗ ⊝ v) ((x ⊖ y) ⊗ v) tt (a ∷ b ∷ w ∷ []))
+crossed-wave false a b w z opposite same =
+    let x = variable 0 in let y = variable 1 in let v = variable 2 in
+    rw (same refl) (ring (x ⊗ v ⊕ y ⊗ v) ((x ⊕ y) ⊗ v) tt (a ∷ b ∷ w ∷ []))
 
-apart : (a b w z : ℤ) → z ≡ negℤ w → a *ℤ w +ℤ b *ℤ z ≡ (a -ℤ b) *ℤ w
-apart a b w z opposite =
-    let x = variable 0 in let y = variable 1 in let v = variable 2 in
-    rw opposite (ring (x ⊗ v ⊕ y ⊗ ⊝ v) ((x ⊖ y) ⊗ v) tt (a ∷ b ∷ w ∷ []))
+-- the angle of 1024 places of a line is half a turn more than whole turns where its number is odd
+odd-angle : (k : ℕ) → isOdd k ≡ true → (1024 * k) % turn ≡ halfTurn
+odd-angle k h = let odd = eqb-true (k % 2) 1 h in omega arith
+
+even-angle : (k : ℕ) → isOdd k ≡ false → (1024 * k) % turn ≡ 0
+even-angle k h = let even = eqb-false (k % 2) 1 h in omega arith
 
 -- at two places of line k that add up to 1024
 module _ (k q p : ℕ) (sum : p + q ≡ 1024) (a b : ℤ) where
   cosines : a *ℤ cosineOf k q +ℤ b *ℤ cosineOf k p ≡ across (isOdd k) a b *ℤ cosineOf k q
-  cosines = by-number (isOdd k) refl
-    where
-      by-number : (odd : Bool) → isOdd k ≡ odd → a *ℤ cosineOf k q +ℤ b *ℤ cosineOf k p ≡ across odd a b *ℤ cosineOf k q
-      by-number true h = apart a b _ _ (cosine-opposite k p q 1024 sum (let odd = eqb-true (k % 2) 1 h in omega arith))
-      by-number false h = together a b _ _ (cosine-same k p q 1024 sum (let even = eqb-false (k % 2) 1 h in omega arith))
+  cosines =
+      crossed-wave (isOdd k) a b (cosineOf k q) (cosineOf k p)
+      (λ odd. cosine-opposite k p q 1024 sum (odd-angle k odd))
+      (λ even. cosine-same k p q 1024 sum (even-angle k even))
 
   sines : a *ℤ sineOf k q +ℤ b *ℤ sineOf k p ≡ across (not (isOdd k)) a b *ℤ sineOf k q
-  sines = by-number (isOdd k) refl
-    where
-      by-number : (odd : Bool) → isOdd k ≡ odd → a *ℤ sineOf k q +ℤ b *ℤ sineOf k p ≡ across (not odd) a b *ℤ sineOf k q
-      by-number true h = together a b _ _ (sine-same k p q 1024 sum (let odd = eqb-true (k % 2) 1 h in omega arith))
-      by-number false h = apart a b _ _ (sine-opposite k p q 1024 sum (let even = eqb-false (k % 2) 1 h in omega arith))
+  sines =
+      crossed-wave (not (isOdd k)) a b (sineOf k q) (sineOf k p)
+      (λ even. sine-opposite k p q 1024 sum (even-angle k (not-true _ even)))
+      (λ odd. sine-same k p q 1024 sum (odd-angle k (not-false _ odd)))
 
 -- a sum over the places 1..1023: 1..511 with those that they add up to 1024 with, and 512
 around-512 : (f g : ℕ → ℤ) → ((i : ℕ) → i < 511 → f (1 + i) +ℤ f (1024 - (1 + i)) ≡ g (1 + i)) →

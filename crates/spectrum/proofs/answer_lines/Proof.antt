@@ -38,7 +38,7 @@ the-folded c = c .fold-window .ensures
 fold-window-requires : tie.Need-fold-window-requires
 fold-window-requires c κs =
     let accepted = call (then-of (c .before)) in
-    (rw (is-window (c .before)) (accepted .whole-window), (refl, rw (is-window (c .before)) (accepted .in-range)))
+    (rw (is-window (c .before)) (accepted .in-range .whole-window), (refl, rw (is-window (c .before)) (accepted .in-range .samples)))
 
 fill-lines-requires : tie.Need-fill-lines-requires
 fill-lines-requires c κs =
@@ -47,7 +47,7 @@ fill-lines-requires c κs =
     let accepted = call (then-of read) in (
       record {
         window = read .window-at .result .now;
-        in-range = rw (is-window read) (accepted .in-range);
+        in-range = rw (is-window read) (accepted .in-range .samples);
         long = folded .fold-window .kept .1 .0;
         is-folded = the-folded folded;
         one-turn = read .before .fill-wave .ensures;

@@ -40,7 +40,7 @@ fill-alone-requires : tie.Need-fill-alone-requires
 fill-alone-requires c κs =
     let read = c .before .before in
     let accepted = call (accepted-at read) in (
-      record { whole-window = rw (is-window read) (accepted .whole-window); samples = rw (is-window read) (accepted .in-range) },
+      rw (is-window read) (accepted .in-range),
       (read .before .quarter-wave .ensures, ltb-false _ _ (accepted .right-count)),
     )
 
