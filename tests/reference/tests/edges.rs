@@ -6,6 +6,7 @@ use reference::distortion::distortion;
 use reference::groups::{Kind, group_row, group_value};
 use reference::listing::{fill_listing, listing_text};
 use reference::observation::{Observation, add_row, fresh_record, is_sound, smoothed_value};
+use reference::panel::{PANEL_LINES, panel_row};
 use reference::random::Random;
 use reference::refusals::Refusal;
 use reference::rows::{LARGEST_VALUE, Row, SYSTEMS, Setup};
@@ -68,6 +69,11 @@ fn samples_at_both_ends_of_the_range_are_taken() {
             let mut window = [0; WINDOW_LENGTH];
             window[place] = sample;
             assert_eq!(lines_of(&window, 0).is_ok(), taken, "{sample} at {place}");
+            for setup in Setup::ALL {
+                let (_, refusal) = panel_row(&window, 0, setup, &mut [7; PANEL_LINES]);
+                let expected = (!taken).then_some(Refusal::SampleOutOfRange);
+                assert_eq!(refusal, expected, "{sample} at {place} on the panel");
+            }
         }
     }
 }

@@ -160,21 +160,6 @@ fn thirteen_lines_are_taken_for_both_systems_and_no_other_count() {
 }
 
 #[test]
-fn samples_at_both_ends_of_the_range_are_taken() {
-    for (sample, taken) in [(131_071, true), (131_072, false), (-131_071, true), (-131_072, false)]
-    {
-        for place in [0, 1_000, 2_047] {
-            let mut window = [0; WINDOW_LENGTH];
-            window[place] = sample;
-            let expected = (!taken).then_some(Refusal::SampleOutOfRange);
-            for setup in Setup::ALL {
-                assert_eq!(refusal(&window, 0, setup, PANEL_LINES), expected, "{sample} {place}");
-            }
-        }
-    }
-}
-
-#[test]
 fn first_of_any_faults_decides() {
     // Every set of the five faults: each bit is one, in the order in which they decide.
     let order = [
