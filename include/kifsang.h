@@ -42,9 +42,12 @@
  *
  * Formulas and units
  *
- *     A = round(sum over j of sample[j] * cosine[j * k] / 2^29)   cosine and sine are 2^30 times the
- *     B = round(sum over j of sample[j] *   sine[j * k] / 2^29)   true ones, to the nearest
+ *     A = round(sum over j of sample[j] * cosine[j * k] / 2^29)   cosine and sine are 2^30 times those
+ *     B = round(sum over j of sample[j] *   sine[j * k] / 2^29)   of the series, to the nearest
  *     line[k] = A * A + B * B, at most 2^59                       halves are rounded up
+ *
+ *     The series is the sine's, through the 21st power (eleven terms); it is what "exact" means in every
+ *     proved error below. That it is within 10^-17 of the true sine is not proved here.
  *
  *     A unit is 1/4096 of a sample count, r.m.s. Group values, smoothed values, their sums and their
  *     peaks, and three-second values are in units. A group value is the whole part of the square root of
@@ -243,7 +246,7 @@ typedef char kifsang_assert_record_of_423_words[KIFSANG_RECORD_WORDS == 423 ? 1 
  * Refusals: 2 fewer than 2,048 samples from the start; 4 line_count is not 512; 3 a sample of the
  *   window outside -131071..131071. A refused call leaves the lines as they were.
  * Proved error: A and B of each line are each at most 3/4 from those with the exact cosine and sine,
- *   unrounded (cosine-sum-near and sine-sum-near, crates/spectrum/proofs/Distance.antt).
+ *   unrounded (cosine-sum-near and sine-sum-near, crates/spectral_lines/proofs/Distance.antt).
  * Definition: spectrumRefusal and spectrumExit, crates/spectrum/specs/Spectrum.antt.
  */
 uint32_t kifsang_spectrum(const int32_t *recording, uint64_t recording_length, uint64_t start,
@@ -265,7 +268,7 @@ uint32_t kifsang_spectrum(const int32_t *recording, uint64_t recording_length, u
  *   being the last; 3 a sample of the window outside -131071..131071. A refused call leaves the lines
  *   as they were.
  * Proved error: that of kifsang_spectrum, for each line.
- * Definition: linesFromRefusal and linesFromExit, crates/spectrum/specs/Spectrum.antt.
+ * Definition: linesFromRefusal and linesFromExit, crates/spectral_lines/specs/Calls.antt.
  */
 uint32_t kifsang_lines_from(const int32_t *recording, uint64_t recording_length, uint64_t start,
                             uint64_t first, uint64_t *lines, uint64_t line_count);
@@ -334,9 +337,9 @@ uint32_t kifsang_row(uint32_t kind, uint32_t system, uint32_t edition, const uin
  * Proved error: each value is at most 7 units from the exact group of the edition. The row is that of
  *   kifsang_spectrum and kifsang_row, which would not be refused either, so what is said of such a row holds
  *   of it (exported-demand3).
- * Definition: panelRefusal, panelAnswer and panelExit, crates/groups/specs/Panel.antt, and
+ * Definition: panelRefusal, panelAnswer and panelExit, crates/panel/specs/Panel.antt, and
  *   panelCallRefusal, panelCallLinesExit and panelCallValuesExit,
- *   crates/exported_windows/specs/PanelCall.antt.
+ *   crates/exported_lines/specs/PanelCall.antt.
  */
 uint32_t kifsang_panel_row(const int32_t *recording, uint64_t recording_length, uint64_t start,
                            uint32_t system, uint32_t edition, uint64_t *lines, uint64_t line_count,

@@ -4,8 +4,9 @@ use mathlib.Core.List.{List}
 use Prim.Native.Nat.{ℕ}
 use lib.IntN.{ℤ}
 use Rattle.refusals.specs.Numbers.{noRefusal}
-use Rattle.spectrum.specs.Line.{windowAt, linesOf}
-use Rattle.spectrum.specs.Spectrum.{InRange, spectrumRefusal, spectrumExit}
+use Rattle.windows.specs.Window.{windowAt, InRange}
+use Rattle.spectral_lines.specs.Line.{linesOf}
+use Rattle.spectrum.specs.Spectrum.{spectrumRefusal, spectrumExit}
 use Rattle.spectrum.proofs.Accepted.{accepted}
 
 module _ (recording : List ℤ) (start : ℕ) (buffer : List ℕ) (taken : spectrumRefusal recording start buffer ≡ noRefusal) where

@@ -17,20 +17,20 @@ use Rattle.algebra.proofs.Norm.{near-differences, group-spread}
 use Rattle.algebra.proofs.Weighted.{everywhere-imp}
 use Rattle.sine.specs.ExactSine.{denominator, exactSine, exactCosine}
 use Rattle.sine.proofs.ExactSine.{denominator-pos}
-use Rattle.spectrum.specs.Line.{lineOf, linesOf}
-use Rattle.spectrum.specs.Exact.{exactSum, exactLine}
-use Rattle.spectrum.specs.Spectrum.{InRange, outOfRange}
-use Rattle.spectrum.proofs.Distance.{cosine-sum-near, sine-sum-near}
-use Rattle.spectrum.proofs.Lines.{length-linesOf, getD-linesOf, no-line-too-large}
-use Rattle.groups.specs.declared.Kind.{Kind}
-use Rattle.groups.specs.Spans.{Weighted, weightsOf, totalTwiceWeight, largestTotal, weightedSum}
+use Rattle.spectral_lines.specs.Line.{lineOf, linesOf}
+use Rattle.spectral_lines.specs.Exact.{exactSum, exactLine}
+use Rattle.windows.specs.Window.{InRange, outOfRange}
+use Rattle.spectral_lines.proofs.Distance.{cosine-sum-near, sine-sum-near}
+use Rattle.spectral_lines.proofs.Lines.{length-linesOf, getD-linesOf, no-line-too-large}
+use Rattle.spans.specs.declared.Kind.{Kind}
+use Rattle.spans.specs.Spans.{Weighted, weightsOf, totalTwiceWeight, largestTotal, weightedSum, lineAt}
 use Rattle.groups.specs.Exact.{exactOver, exactGroup}
-use Rattle.groups.specs.Group.{lineAt, valueOver, groupValue, groupRefusal, groupAnswer}
+use Rattle.groups.specs.Group.{valueOver, groupValue, groupRefusal, groupAnswer}
 use Rattle.rows.specs.Setups.{isSetup}
 use Rattle.rows.specs.declared.Setup.{Setup}
 use Rattle.rows.specs.Orders.{orderCount, isOrder}
 use Rattle.rows.proofs.Setups.{setup-parts}
-use Rattle.groups.proofs.Weights.{weightsOf-total-le, weightsOf-line-lt, weightedSum-eq}
+use Rattle.spans.proofs.Weights.{weightsOf-total-le, weightsOf-line-lt, weightedSum-eq}
 use Rattle.accuracy.specs.Distance.{EveryOrder, WeightsNear, GroupsNear, groupMargin}
 use Rattle.accuracy.proofs.Places.{Sums, roundedSums, placesOf, everywhere-placesOf, totalWeight-placesOf, value-within}
 

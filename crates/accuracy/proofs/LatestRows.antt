@@ -3,13 +3,12 @@ use mathlib.Core.Path.{_≡_}
 use mathlib.Core.Bool.{true, cond}
 use Prim.Native.Nat.{_-_, _≤_}
 use native.Mathlib.Omega.{arith}
-use borrow.Author.Tests.{lt-ltb, le-ltb, le-leb}
+use borrow.Author.Tests.{le-ltb}
 use lib.Dec.{ltb}
 use lib.ListN.{length}
 use Rattle.refusals.specs.Numbers.{noRefusal, tooFewWindows}
 use Rattle.refusals.specs.Answers.{answer}
 use Rattle.rows.specs.Setups.{isSetup}
-use Rattle.rows.specs.Orders.{orderCount, isOrder}
 use Rattle.observation.specs.Soundness.{isSound}
 use Rattle.observation.specs.Latest.{rowsKept, latestValues}
 use Rattle.observation.specs.BookCalls.{AcceptedFit}
@@ -19,6 +18,7 @@ use Rattle.three_seconds.specs.ThreeSecond.{threeSecondOf, threeSecondRefusal, 
 use Rattle.accuracy.specs.Distance.{EveryOrder}
 use Rattle.accuracy.specs.CallList.{CallList, after, acceptedRows}
 use Rattle.accuracy.specs.LatestRows.{lastValues, LatestHolds}
+use Rattle.accuracy.proofs.GroupDistance.{is-order}
 use Rattle.accuracy.proofs.ThreeSeconds.{last-figure-near}
 
 module _ (list : CallList) (known : isSetup (list .setup) ≡ true) (fits : AcceptedFit (list .setup) 0 (list .rows)) where
@@ -34,13 +34,9 @@ module _ (list : CallList) (known : isSetup (list .setup) ≡ true) (fits : Acce
   unfolding after
   latest-kept order positive le = fresh-record-after-latest (list .setup) (list .rows) (order - 1) known (omega arith) fits
 
-  known-order : EveryOrder (λ order. isOrder order ≡ true)
-  unfolding isOrder
-  known-order order positive le = rw (lt-ltb 0 order positive, le-leb order orderCount le)
-
   asked : EveryOrder (λ order. threeSecondRefusal (after list) order ≡ cond (ltb (length (acceptedRows list)) rowsKept) tooFewWindows noRefusal)
   unfolding threeSecondRefusal
-  asked order positive le = rw (sound-after, known-order order positive le, windows-kept)
+  asked order positive le = rw (sound-after, is-order order positive le, windows-kept)
 
   answered : EveryOrder (λ order.
       rowsKept ≤ length (acceptedRows list) →

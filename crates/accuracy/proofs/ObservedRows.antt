@@ -10,9 +10,9 @@ use Rattle.refusals.proofs.Answers.{unlessRefused-accepted}
 use Rattle.rows.specs.declared.Row.{Row}
 use Rattle.rows.specs.Setups.{isSetup}
 use Rattle.rows.specs.declared.Setup.{Setup}
-use Rattle.spectrum.specs.Line.{windowAt}
+use Rattle.windows.specs.Window.{windowAt}
 use Rattle.spectrum.proofs.Accepted as Lines
-use Rattle.groups.specs.declared.Kind.{Kind}
+use Rattle.spans.specs.declared.Kind.{Kind}
 use Rattle.groups.specs.Group.{windowRow}
 use Rattle.observation.specs.declared.Observation.{Observation}
 use Rattle.observation.proofs.SoundRecord.{sound-parts, fresh-of-known}

@@ -11,14 +11,14 @@ use Rattle.algebra.specs.Integers.{square}
 use Rattle.algebra.specs.Lists.{anyOf}
 use Rattle.algebra.specs.Weighted.{sumOver, weightedSquares, Place, totalWeight, squares, exactSquares, Everywhere, DifferencesWithin, WithinUnits}
 use Rattle.algebra.proofs.Norm.{norm-within}
-use Rattle.integers.proofs.Root.{Root, root-law, lt-rootLimit}
+use Rattle.square_root.proofs.RootLaws.{Root, root-law, lt-rootLimit}
 use Rattle.sine.specs.Wave.{tableSine, tableCosine}
-use Rattle.spectrum.specs.Line.{roundedSum, lineOf, largestLine}
-use Rattle.spectrum.specs.Spectrum.{outOfRange}
-use Rattle.spectrum.proofs.Bounds.{line-le}
-use Rattle.groups.specs.Spans.{Weighted, totalTwiceWeight, largestTotal, weightedSum}
+use Rattle.spectral_lines.specs.Line.{roundedSum, lineOf, largestLine}
+use Rattle.windows.specs.Window.{outOfRange}
+use Rattle.spectral_lines.proofs.Bounds.{line-le}
+use Rattle.spans.specs.Spans.{Weighted, totalTwiceWeight, largestTotal, weightedSum}
 use Rattle.groups.specs.Group.{valueOver}
-use Rattle.groups.proofs.Weights.{weightedSum-le-total}
+use Rattle.spans.proofs.Weights.{weightedSum-le-total}
 
 -- the cosine sum and the sine sum of a line, by the line's number
 pub record Sums : Type 0 where

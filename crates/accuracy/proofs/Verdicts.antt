@@ -8,18 +8,18 @@ use native.Mathlib.Omega.{arith}
 use Rattle.algebra.specs.Fraction.{Fraction, whole, _≤ᶠ_, Side, Near}
 use Rattle.algebra.proofs.Fraction.{near-weaken, near-divide, near-le-bound, near-gt-bound}
 use Rattle.refusals.specs.Numbers.{noRefusal}
-use Rattle.groups.specs.declared.Kind.{Kind}
+use Rattle.spans.specs.declared.Kind.{Kind}
 use Rattle.observation.specs.Book.{Book}
 use Rattle.observation.specs.Smoothing.{reported, smoothedMargin}
 use Rattle.observation.specs.Average.{averageOf, peakOf}
 use Rattle.observation.specs.Calls.{bookAt}
 use Rattle.limits.specs.declared.Class.{Class}
-use Rattle.limits.specs.Letters.{classWith}
 use Rattle.limits.proofs.ClassLetters.{classWith-letter}
+use Rattle.limit_tests.specs.Limit.{limitInUnits, peakLimitInUnits}
 use Rattle.verdict.specs.declared.Question.{Question}
 use Rattle.verdict.specs.declared.Verdict.{Verdict}
 use Rattle.verdict.specs.declared.Verdict.the-variants.{Within, Close, Over}
-use Rattle.verdict.specs.Limit.{limitInUnits, peakLimitInUnits}
+use Rattle.verdict.specs.Question.{classAsked}
 use Rattle.verdict.specs.Call.{verdictRefusal, verdictIn, verdictOf}
 use Rattle.verdict.proofs.Verdicts.{Says, verdict-says, verdict-order, accepted, accepted-given}
 use Rattle.accuracy.specs.ExactBook.{exact}
@@ -84,18 +84,17 @@ module _ (kind : Kind) (list : CallList) (class : Class) (order scale : ℕ) whe
           let verdict = verdictIn class (after list) order scale in
           says-keeps _ (subst (λ book. SaysOf book verdict) same (verdict-says class (after list) order scale))
 
--- the verdict of a call that is not refused, in the class that its letter names
+-- the verdict of a call that is not refused, in the class that is asked
 pub given-verdict :
     (kind : Kind) (list : CallList) (q : Question) →
     verdictRefusal (after list) q ≡ noRefusal →
-    Keeps kind list (classWith (q .letter)) (q .order) (q .scale) (verdictOf (after list) q) →
+    Keeps kind list (classAsked q) (q .order) (q .scale) (verdictOf (after list) q) →
     GivenVerdict kind list q
 given-verdict kind list q asked kept =
     record {
-      class = classWith (q .letter);
       named = classWith-letter (q .letter) (accepted (after list) q asked .known-class);
       verdict = verdictOf (after list) q;
       given = accepted-given (after list) q asked;
-      of-order = verdict-order (classWith (q .letter)) (after list) (q .order) (q .scale);
+      of-order = verdict-order (classAsked q) (after list) (q .order) (q .scale);
       kept = kept;
     }

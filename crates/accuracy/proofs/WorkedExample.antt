@@ -12,14 +12,14 @@ use Rattle.algebra.specs.Largest.{largest}
 use Rattle.algebra.specs.Lists.{tabulate, anyOf}
 use Rattle.algebra.specs.Rounding.{nearest}
 use Rattle.algebra.specs.Weighted.{sumOver}
-use Rattle.integers.specs.Root.{rootOf}
-use Rattle.spectrum.specs.Line.{lineCount, linesOf}
-use Rattle.spectrum.specs.Spectrum.{InRange}
-use Rattle.spectrum.proofs.Pulse as Pulse
-use Rattle.spectrum.proofs.Pulse.{pulse, pulse-in-range}
-use Rattle.groups.specs.declared.Kind.{Kind}
-use Rattle.groups.specs.declared.Kind.the-variants.{HarmonicGroup}
-use Rattle.groups.specs.Spans.{spanOf, groupedAs, weightsIn, weightedSum}
+use Rattle.square_root.specs.Root.{rootOf}
+use Rattle.spectral_lines.specs.Line.{lineCount, linesOf}
+use Rattle.windows.specs.Window.{InRange}
+use Rattle.spectral_lines.proofs.Pulse as Pulse
+use Rattle.spectral_lines.proofs.Pulse.{pulse, pulse-in-range}
+use Rattle.spans.specs.declared.Kind.{Kind}
+use Rattle.spans.specs.declared.Kind.the-variants.{HarmonicGroup}
+use Rattle.spans.specs.Spans.{spanOf, groupedAs, weightsIn, weightedSum}
 use Rattle.groups.specs.Group.{valueOver, groupValue, groupRefusal, groupAnswer, groupValues}
 use Rattle.rows.specs.Systems.{isSystem}
 use Rattle.rows.specs.Editions.{isEdition}
@@ -36,13 +36,13 @@ use Rattle.limits.specs.declared.Class.{Class}
 use Rattle.limits.specs.declared.Class.the-variants.{A, B}
 use Rattle.limits.specs.Letters.{letterOf}
 use Rattle.limits.specs.Limit.{ownFigures, figureIn, classALimit, limitOf, overOrder}
+use Rattle.limit_tests.specs.Limit.{limitInUnits, peakLimitInUnits}
+use Rattle.limit_tests.specs.Tests.{isWithin, isOver}
 use Rattle.verdict.specs.declared.Verdict.{Verdict}
 use Rattle.verdict.specs.declared.Verdict.the-variants.{Within, Close, Over}
 use Rattle.verdict.specs.declared.VerdictAnswer.{VerdictAnswer}
 use Rattle.verdict.specs.declared.VerdictAnswer.the-variants.{Given}
 use Rattle.verdict.specs.Question.{asked, isScale}
-use Rattle.verdict.specs.Limit.{limitInUnits, peakLimitInUnits}
-use Rattle.verdict.specs.Tests.{isWithin, isOver}
 use Rattle.verdict.specs.Call.{combined, verdictIn, verdictAnswer}
 use Rattle.observation.specs.Average.{averageOf, peakOf}
 use Rattle.accuracy.specs.Distance.{EveryOrder, valueOf}

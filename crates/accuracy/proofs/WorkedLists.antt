@@ -1,17 +1,18 @@
--- Worked lists of calls: a row, three that are refused, and another row so many times. They meet the hypotheses of demand 3 for
+-- Worked lists of calls: a row, four that are refused, and another row so many times. They meet the hypotheses of demand 3 for
 -- every kind, both editions, any two windows in range and any count of rows up to 45,000.
-use mathlib.Core.Path.{_≡_, refl, ap}
+use mathlib.Core.Path.{_≡_, refl, sym, ap, _∙_}
 use mathlib.Core.Bool.{true}
-use mathlib.Core.List.{List, [], _∷_, _++_}
+use mathlib.Core.List.{List, [], _∷_, _++_, append-nil}
 use Prim.Native.Nat.{ℕ, zero, suc, _+_, _-_, _≤_, _<_}
+use native.Mathlib.Nat.{add-zero}
 use native.Mathlib.Omega.{arith}
 use borrow.Author.Tests.{lt-leb}
 use lib.IntN.{ℤ}
 use lib.ListN.{length, replicate, length-replicate}
 use Rattle.algebra.specs.Weighted.{Everywhere}
-use Rattle.spectrum.specs.Line.{linesOf}
-use Rattle.spectrum.specs.Spectrum.{InRange}
-use Rattle.groups.specs.declared.Kind.{Kind}
+use Rattle.spectral_lines.specs.Line.{linesOf}
+use Rattle.windows.specs.Window.{InRange}
+use Rattle.spans.specs.declared.Kind.{Kind}
 use Rattle.groups.specs.Group.{groupValues}
 use Rattle.rows.specs.Systems.{isSystem}
 use Rattle.rows.specs.Editions.{isEdition}
@@ -41,15 +42,16 @@ pub worked-row : (kind : Kind) (edition : ℕ) (window : List ℤ) → InRange w
 unfolding workedRow
 worked-row kind edition window in-range = record { in-range = in-range; values = refl }
 
--- of another system, of the other edition, and of none, so that they are refused: 8, 8 and 19
+-- of another system, of the other edition, of no edition and of no system, so that they are refused: 8, 8, 19 and 1
 unfoldable pub otherRows : ℕ → List Row
 otherRows edition =
     record { setup = setupOf 12 edition; values = replicate orderCount 1 } ∷
     record { setup = setupOf 10 (1 - edition); values = replicate orderCount 1 } ∷
     record { setup = setupOf 10 2; values = replicate orderCount 1 } ∷
+    record { setup = setupOf 11 edition; values = replicate orderCount 1 } ∷
     []
 
-everywhere-replicate : {A : Type 0} (F : A → Type 0) (n : ℕ) (x : A) → F x → Everywhere F (replicate n x)
+pub everywhere-replicate : {A : Type 0} (F : A → Type 0) (n : ℕ) (x : A) → F x → Everywhere F (replicate n x)
 everywhere-replicate F zero x holds = tt
 everywhere-replicate F (suc n) x holds = (holds, everywhere-replicate F n x holds)
 
@@ -62,17 +64,33 @@ module _ (setup : Setup) (row : Row) (known : isSetup setup ≡ true) (own : row
       let parts = setup-parts setup known in
       rw (own, parts .system-known, parts .edition-known, sameSetup-self setup, lt-leb mostWindows count less)
 
+  -- before other rows
+  pub again-then :
+      (later count : ℕ) (rest : List Row) → count + later ≤ mostWindows →
+      acceptedCalls (λ r. r) (accepts setup) count (replicate later row ++ rest) ≡
+      replicate later row ++ acceptedCalls (λ r. r) (accepts setup) (count + later) rest
+  unfolding acceptedCalls
+  again-then zero count rest room = rw (add-zero count)
+  again-then (suc later) count rest room =
+      let counted : count + 1 + later ≡ count + suc later = omega arith in
+      rw (own-accepted count (omega arith))
+      (ap (λ (rows : List Row). row ∷ rows)
+      (again-then later (count + 1) rest (omega arith)
+      ∙ ap (λ (n : ℕ). replicate later row ++ acceptedCalls (λ r. r) (accepts setup) n rest) counted))
+
+  -- at the end
   again-accepted :
       (later count : ℕ) → count + later ≤ mostWindows →
       acceptedCalls (λ r. r) (accepts setup) count (replicate later row) ≡ replicate later row
   unfolding acceptedCalls
-  again-accepted zero count room = refl
-  again-accepted (suc later) count room = rw (own-accepted count (omega arith), again-accepted later (count + 1) (omega arith))
+  again-accepted later count room =
+      ap (acceptedCalls (λ r. r) (accepts setup) count) (sym (append-nil (replicate later row)))
+      ∙ (again-then later count [] room ∙ append-nil (replicate later row))
 
 -- ---- the list
 
 module _ (kind : Kind) (window next : List ℤ) where
-  -- a row, three that are refused, and another row so many times
+  -- a row, four that are refused, and another row so many times
   unfoldable pub listOf : ℕ → ℕ → CallList
   listOf later edition =
       record { setup = setupOf 10 edition; rows = workedRow kind edition window ∷ otherRows edition ++ replicate later (workedRow kind edition next) }

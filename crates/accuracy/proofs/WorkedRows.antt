@@ -11,8 +11,8 @@ use Rattle.rows.specs.declared.Row.{Row}
 use Rattle.rows.specs.declared.Setup.{Setup}
 use Rattle.rows.specs.Setups.{isSetup}
 use Rattle.rows.specs.Rows.{ValuesFit}
-use Rattle.spectrum.specs.Line.{linesOf}
-use Rattle.groups.specs.declared.Kind.{Kind}
+use Rattle.spectral_lines.specs.Line.{linesOf}
+use Rattle.spans.specs.declared.Kind.{Kind}
 use Rattle.groups.specs.Exact.{exactGroup}
 use Rattle.groups.proofs.GroupSum.{groupValues-le, groupValues-at}
 use Rattle.observation.specs.Smoothing.{smoothedMargin}

@@ -16,9 +16,9 @@ use Rattle.rows.specs.Editions.{isEdition}
 use Rattle.rows.specs.Setups.{setupOf, sameSetup}
 use Rattle.rows.proofs.Editions.{each-edition}
 use Rattle.wide_numbers.specs.Squares.{sumOfSquares}
-use Rattle.spectrum.specs.Spectrum.{InRange}
-use Rattle.groups.specs.declared.Kind.the-variants.{HarmonicGroup}
-use Rattle.spectrum.proofs.Pulse.{pulse}
+use Rattle.windows.specs.Window.{InRange}
+use Rattle.spans.specs.declared.Kind.the-variants.{HarmonicGroup}
+use Rattle.spectral_lines.proofs.Pulse.{pulse}
 use Rattle.observation.specs.Latest.{lastOf}
 use Rattle.observation.specs.Calls.{rowChecks}
 use Rattle.observation.specs.BookCalls.{accepts, acceptedCalls, valueAt}

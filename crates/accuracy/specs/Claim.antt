@@ -10,7 +10,7 @@ use Rattle.algebra.specs.Fraction.{whole, Side, lower, upper, RootBound, _+ᶠ_
 use Rattle.refusals.specs.Numbers.{noRefusal}
 use Rattle.rows.specs.Setups.{isSetup}
 use Rattle.rows.specs.declared.Setup.{Setup}
-use Rattle.groups.specs.declared.Kind.{Kind}
+use Rattle.spans.specs.declared.Kind.{Kind}
 use Rattle.groups.specs.Exact.{exactGroup}
 use Rattle.observation.specs.Book.{Book}
 use Rattle.observation.specs.Smoothing.{reported, smoothedMargin}
@@ -23,6 +23,7 @@ use Rattle.verdict.specs.declared.Question.{Question}
 use Rattle.verdict.specs.declared.Verdict.{Verdict}
 use Rattle.verdict.specs.declared.Verdict.the-variants.{Within, Close, Over}
 use Rattle.verdict.specs.declared.VerdictAnswer.the-variants.{Given}
+use Rattle.verdict.specs.Question.{classAsked}
 use Rattle.verdict.specs.Call.{verdictRefusal, verdictAnswer, orderNumber}
 use Rattle.accuracy.specs.Distance.{EveryOrder, WeightsNear, GroupsNear}
 use Rattle.accuracy.specs.ExactBook.{exact}
@@ -64,14 +65,13 @@ module _ (kind : Kind) (list : CallList) where
   Keeps class order scale (Close h) =
       AverageTouches class order scale (reportedBook list order) ⊎ PeakTouches class order scale (reportedBook list order)
 
-  -- the letter names a class; a verdict is given, for the order that was asked, and it keeps its claim in that class
+  -- the letter is that of the class that is asked; a verdict is given, for the order that was asked, and it keeps its claim in that class
   pub record GivenVerdict (q : Question) : Type 0 where
-    pub class : Class
-    pub named : letterOf class ≡ q .letter
+    pub named : letterOf (classAsked q) ≡ q .letter
     pub verdict : Verdict
     pub given : verdictAnswer (after list) q ≡ Given verdict
     pub of-order : orderNumber verdict ≡ q .order
-    pub kept : Keeps class (q .order) (q .scale) verdict
+    pub kept : Keeps (classAsked q) (q .order) (q .scale) verdict
 
   -- what holds after a list of calls, and of the three-second values and the verdicts then asked
   pub record ListHolds : Type 0 where

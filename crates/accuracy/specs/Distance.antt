@@ -6,10 +6,10 @@ use Prim.Native.Nat.{ℕ, _+_, _-_, _<_, _≤_}
 use lib.IntN.{ℤ}
 use Rattle.algebra.specs.Fraction.{Fraction, whole, square, _≤ᶠ_}
 use Rattle.refusals.specs.Numbers.{noRefusal}
-use Rattle.spectrum.specs.Line.{lineOf, linesOf}
-use Rattle.spectrum.specs.Spectrum.{InRange}
-use Rattle.groups.specs.declared.Kind.{Kind}
-use Rattle.groups.specs.Spans.{Weighted, totalTwiceWeight, largestTotal}
+use Rattle.spectral_lines.specs.Line.{lineOf, linesOf}
+use Rattle.windows.specs.Window.{InRange}
+use Rattle.spans.specs.declared.Kind.{Kind}
+use Rattle.spans.specs.Spans.{Weighted, totalTwiceWeight, largestTotal}
 use Rattle.groups.specs.Group.{valueOver, groupAnswer}
 use Rattle.rows.specs.Setups.{isSetup}
 use Rattle.rows.specs.declared.Setup.{Setup}

@@ -6,8 +6,8 @@ use Rattle.observation.specs.Book.{Book}
 use Rattle.observation.specs.Smoothing.{reported}
 use Rattle.observation.specs.Average.{average}
 use Rattle.limits.specs.declared.Class.{Class}
-use Rattle.verdict.specs.Limit.{limitInUnits, peakLimitInUnits}
-use Rattle.verdict.specs.Tests.{Touches}
+use Rattle.limit_tests.specs.Limit.{limitInUnits, peakLimitInUnits}
+use Rattle.limit_tests.specs.Tests.{Touches}
 use Rattle.accuracy.specs.ExactBook.{exact}
 
 -- "The average is sum/count"

@@ -3,10 +3,10 @@ use mathlib.Core.Path.{_≡_}
 use mathlib.Core.List.{List, map}
 use lib.IntN.{ℤ}
 use Rattle.algebra.specs.Weighted.{Everywhere}
-use Rattle.spectrum.specs.Line.{linesOf}
-use Rattle.spectrum.specs.Spectrum.{InRange}
+use Rattle.spectral_lines.specs.Line.{linesOf}
+use Rattle.windows.specs.Window.{InRange}
 use Rattle.rows.specs.declared.Row.{Row}
-use Rattle.groups.specs.declared.Kind.{Kind}
+use Rattle.spans.specs.declared.Kind.{Kind}
 use Rattle.groups.specs.Group.{groupValues}
 
 -- a row is worked from samples if, with its system and its edition, it holds the 40 values of the kind that are answered for the lines of one window in range

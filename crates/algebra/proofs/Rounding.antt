@@ -4,7 +4,7 @@ use mathlib.Core.Bool.{Bool, true, false, not, cond}
 use mathlib.Core.List.{[], _∷_}
 use mathlib.Core.Path.{_≡_, refl, sym, ap, _∙_}
 use Prim.Native.Nat.{ℕ, zero, suc, _+_, _*_, _-_, _/_, _%_, _^_, _≤_, _<_}
-use native.Mathlib.Nat.{le-refl, le-trans, le-antisymm, zero-mul, le-div-iff-mul-le, div-mul-le-self, mod-lt, div-add-mod, div-eq-of-lt-le, mul-le-mul-left, mul-div-le, lt-mul-div-succ, add-div-right, div-eq-of-lt, div-div-eq-div-mul, mul-zero, pow-succ', one-le-pow}
+use native.Mathlib.Nat.{le-refl, le-trans, le-antisymm, zero-mul, le-div-iff-mul-le, div-mul-le-self, mod-lt, div-add-mod, div-eq-of-lt-le, mul-le-mul-left, mul-div-le, lt-mul-div-succ, add-div-right, div-eq-of-lt, div-div-eq-div-mul, mul-zero, mul-comm, pow-succ', one-le-pow}
 use native.Mathlib.Omega.{arith, by-contra}
 use lib.Dec.{T, ltb, ltb→lt, nltb→le, leb→le, le→leb, lit<, lit≤}
 use lib.IntN.{ℤ, pos, negsuc, negℤ, natAbs, subℕ, _+ℤ_, _-ℤ_, _*ℤ_, +ℤ-idr, +ℤ-assoc, +ℤ-comm, +ℤ-sucℤ, sucℤ-*ℤ, *ℤ-comm, negℤ-negℤ}
@@ -245,9 +245,21 @@ unfolding floorOver
 shr-is-floor (pos n) m = refl
 shr-is-floor (negsuc n) m = refl
 
--- what the code computes, as (a + 2^28) >> 29
-pub shift-nearestℤ : (z : ℤ) (k : ℕ) → shrZ (z +ℤ pos (2 ^ k)) (2 ^ suc k) ≡ nearestℤ z (2 ^ suc k)
-shift-nearestℤ z k = shr-is-floor (z +ℤ pos (2 ^ k)) (2 ^ suc k) ∙ rw (pow-succ' 2 k) (nearestℤ-even z (2 ^ k) (one-le-pow k 2 (omega arith)))
+-- a half of a part, both rounded down
+floorOver-half : (z : ℤ) (d : ℕ) → floorOver (floorOver z d) 2 ≡ floorOver z (2 * d)
+unfolding floorOver
+floorOver-half (pos n) d = ap pos (div-div-eq-div-mul n d 2 ∙ ap (λ m. n / m) (mul-comm d 2))
+floorOver-half (negsuc n) d = ap negsuc (div-div-eq-div-mul n d 2 ∙ ap (λ m. n / m) (mul-comm d 2))
+
+-- what the code computes, as ((a >> 28) + 1) >> 1
+pub two-shifts-nearestℤ : (z : ℤ) (k : ℕ) → shrZ (shrZ z (2 ^ k) +ℤ pos 1) 2 ≡ nearestℤ z (2 ^ suc k)
+two-shifts-nearestℤ z k =
+    let once : 1 * 2 ^ k ≡ 2 ^ k = omega arith in
+    shr-is-floor (shrZ z (2 ^ k) +ℤ pos 1) 2
+    ∙ ap (λ y. floorOver (y +ℤ pos 1) 2) (shr-is-floor z (2 ^ k))
+    ∙ ap (λ y. floorOver y 2) (sym (rw once at (floorOver-add z 1 (2 ^ k) (one-le-pow k 2 (omega arith)))))
+    ∙ floorOver-half (z +ℤ pos (2 ^ k)) (2 ^ k)
+    ∙ rw (pow-succ' 2 k) (nearestℤ-even z (2 ^ k) (one-le-pow k 2 (omega arith)))
 
 -- the hypotheses can be met
 rounding-met : (3 ≡ nearest 5 2) × (nearest 7 2 ≤ nearest 5 2 + 1) × (nearestℤ (pos 1) 2 ≤ℤ (nearestℤ (negsuc 2) 2 +ℤ pos 2))

@@ -1,15 +1,15 @@
--- Signed numbers of a width by their absolute values: what fits, what a widened number is, and a number without sign taken from 0.
-use mathlib.Core.Path.{_≡_, ap, _∙_}
+-- Signed numbers of a width by their absolute values: what fits, what a widened number is, a number without sign taken from 0, and a sum of products.
+use mathlib.Core.Path.{_≡_, ap, ap₂, _∙_}
 use Prim.Native.Nat.{ℕ, _^_, _≤_, _<_}
-use native.Mathlib.Nat.{lt-of-le-of-lt, le-of-lt}
+use native.Mathlib.Nat.{lt-of-le-of-lt, le-of-lt, mul-le-mul}
 use native.Mathlib.Omega.{arith}
-use lib.IntN.{ℤ, pos, negsuc, negℤ, natAbs, _-ℤ_, +ℤ-idl}
+use lib.IntN.{ℤ, pos, negsuc, negℤ, natAbs, _+ℤ_, _-ℤ_, _*ℤ_, +ℤ-idl}
 use lib.Signed.{mag}
 use mir.Syntax.{Width, w32, w64}
 use mir.Val.{SFits, toZ, ofZ, hbits}
 use mir.ValLaws.{toZ-ofZ}
 use mir.Facts.{toZ-pos, sfits-widen}
-use Rattle.algebra.proofs.Integer.{natAbs-negℤ}
+use Rattle.algebra.proofs.Integer.{natAbs-negℤ, natAbs-*ℤ, natAbs-+ℤ-le}
 
 mag-le-natAbs : (z : ℤ) → mag z ≤ natAbs z
 mag-le-natAbs (pos n) = omega arith
@@ -45,3 +45,27 @@ negated w n h = rw (toZ-pos w h) (+ℤ-idl (negℤ (pos n)))
 
 pub negated-fits : (w : Width) (n : ℕ) → n < 2 ^ hbits w → SFits w (negℤ (pos n))
 negated-fits w n h = sfits-natAbs w (negℤ (pos n)) (rw natAbs-negℤ h)
+
+-- ---- a sum of products of two numbers of 32 bits
+
+product-le : (a b : ℤ) → SFits w32 a → SFits w32 b → natAbs (a *ℤ b) ≤ 2 ^ 62
+product-le a b f g = rw natAbs-*ℤ (mul-le-mul (natAbs-sfits w32 a f) (natAbs-sfits w32 b g))
+
+-- 64 bits hold a product
+pub product-fits : (a b : ℤ) → SFits w32 a → SFits w32 b → SFits w64 (a *ℤ b)
+product-fits a b f g = sfits-natAbs w64 (a *ℤ b) (omega (arith, product-le a b f g))
+
+-- and a sum below 2^62 with one product more, both as the machine reads them back from their bits
+pub record SumWithProduct (sum product s a b : ℤ) : Type 0 where
+  pub fits : SFits w64 (sum +ℤ toZ w64 (ofZ w64 product))
+  pub is : sum +ℤ toZ w64 (ofZ w64 product) ≡ s +ℤ a *ℤ b
+
+pub sum-with-product :
+    (sum product s a b : ℤ) → SFits w32 a → SFits w32 b → natAbs s < 2 ^ 62 →
+    sum ≡ s → product ≡ a *ℤ b → SumWithProduct sum product s a b
+sum-with-product sum product s a b f g small e p =
+    let same = ap₂ _+ℤ_ e (read-as w64 product (a *ℤ b) p (omega (arith, product-le a b f g))) in
+    record {
+      fits = rw same (sfits-natAbs w64 (s +ℤ a *ℤ b) (omega (arith, natAbs-+ℤ-le s (a *ℤ b), product-le a b f g)));
+      is = same;
+    }

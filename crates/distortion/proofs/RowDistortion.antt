@@ -10,7 +10,7 @@ use lib.ListN.{length, getD, drop, length-drop}
 use lib.Seq.{getD-drop}
 use Rattle.algebra.specs.Largest.{largest}
 use Rattle.algebra.proofs.Largest.{Bounded, largest-le, largest-ge, largest-eq}
-use Rattle.integers.specs.Root.{rootOf, rootLimit}
+use Rattle.square_root.specs.Root.{rootOf, rootLimit}
 use Rattle.limbs.specs.Limbs.{valueOf, limbsOf}
 use Rattle.limbs.proofs.Limbs.{valueOf-limbsOf-lt}
 use Rattle.wide_numbers.specs.WideNumbers.{wideLimbs}

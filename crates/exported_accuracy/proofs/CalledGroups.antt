@@ -8,14 +8,15 @@ use lib.IntN.{ℤ}
 use lib.ListN.{length}
 use Rattle.refusals.specs.Numbers.{noRefusal}
 use Rattle.refusals.specs.Answers.{firstFault}
-use Rattle.spectrum.specs.Line.{lineCount, windowAt, linesOf}
+use Rattle.spectral_lines.specs.Line.{lineCount, linesOf}
+use Rattle.windows.specs.Window.{windowAt}
 use Rattle.spectrum.specs.Spectrum.{spectrumRefusal, spectrumExit}
-use Rattle.groups.specs.declared.Kind.the-variants.{HarmonicGroup}
+use Rattle.spans.specs.declared.Kind.the-variants.{HarmonicGroup}
 use Rattle.groups.specs.Group.{groupRefusal, groupValues}
-use Rattle.groups.specs.Panel.{panelRefusal}
+use Rattle.panel.specs.Panel.{panelRefusal}
 use Rattle.groups.proofs.GroupSum.{accepted, accepted-value, windowRow-accepted}
-use Rattle.groups.proofs.PanelLines.{PanelAccepted, panel-accepted}
-use Rattle.groups.proofs.PanelRow.{spectrum-too}
+use Rattle.panel.proofs.PanelLines.{PanelAccepted, panel-accepted}
+use Rattle.panel.proofs.PanelRow.{spectrum-too}
 use Rattle.rows.specs.Orders.{orderCount}
 use Rattle.rows.specs.declared.Setup.{Setup}
 use Rattle.rows.proofs.Orders.{order-bounds}
@@ -26,7 +27,7 @@ use Rattle.accuracy.proofs.GroupDistance.{groups-near}
 use Rattle.accuracy.proofs.WorkedRows.{worked-near}
 use Rattle.exported_windows.specs.Kinds.{kinds, isKind, kindWith, kindCheck}
 use Rattle.exported_windows.specs.GroupCalls.{groupCallRefusal, groupCallExit, rowCallRefusal, rowCallExit}
-use Rattle.exported_windows.specs.PanelCall.{panelCallRefusal, panelCallValuesExit}
+use Rattle.exported_lines.specs.PanelCall.{panelCallRefusal, panelCallValuesExit}
 use Rattle.exported_records.specs.RecordCalls.{lentRow}
 use Rattle.exported_answers.specs.OwnChecks.{wordCountCheck}
 use Rattle.exported_answers.proofs.Handed.{own-first-none}

@@ -12,7 +12,7 @@ use lib.IntN.{ℤ}
 use Rattle.refusals.specs.Numbers.{noRefusal, tooFewWindows}
 use Rattle.refusals.specs.Answers.{firstFault}
 use Rattle.rows.specs.declared.Setup.{Setup}
-use Rattle.groups.specs.declared.Kind.{Kind}
+use Rattle.spans.specs.declared.Kind.{Kind}
 use Rattle.observation.specs.Book.{Book}
 use Rattle.observation.specs.Smoothing.{reported}
 use Rattle.observation.specs.Latest.{rowsKept}
@@ -97,7 +97,6 @@ module _
         let given = claimed .verdicts q passed in
         let same = given-case o q (given .verdict) (given .given) .1 in
         record {
-          class = given .class;
           named = given .named;
           verdict = given .verdict;
           of-order = given .of-order;

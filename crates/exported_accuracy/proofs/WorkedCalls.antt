@@ -1,18 +1,19 @@
--- Worked calls on the words of a record, with each kind of call and of refusal among them. They come to a list that
--- meets the hypothesis of demand 3, for every kind, both editions, any two windows in range and any words at the beginning.
--- With 15 rows at the end the list has 16 accepted ones, and so a three-second value.
+-- Worked calls on the words of a record, with each kind of call among them, and each refusal but two: 7 is for the words at the
+-- beginning to decide, and 9 takes a list that fills a record, which `worked_numbers` has. They come to a list that meets the
+-- hypothesis of demand 3, for every kind, both editions, any two windows in range and any words at the beginning.
+-- With 15 rows at the end the list has 16 accepted ones, and so a three-second value, which the last call asks for.
 use mathlib.Core.Path.{_≡_, refl, _∙_}
 use mathlib.Core.Bool.{true}
-use mathlib.Core.List.{List, [], _∷_}
+use mathlib.Core.List.{List, [], _∷_, _++_}
 use mathlib.Core.Option.{none, some}
 use Prim.Native.Nat.{ℕ, _-_}
 use native.Mathlib.Omega.{arith}
-use lib.IntN.{ℤ}
+use lib.IntN.{ℤ, pos}
 use lib.ListN.{length, replicate}
-use Rattle.algebra.specs.Lists.{tabulate}
-use Rattle.spectrum.specs.Line.{linesOf}
-use Rattle.spectrum.specs.Spectrum.{InRange}
-use Rattle.groups.specs.declared.Kind.{Kind}
+use Rattle.algebra.specs.Lists.{tabulate, anyOf}
+use Rattle.windows.specs.Window.{windowAt, outOfRange, InRange}
+use Rattle.spectral_lines.specs.Line.{linesOf}
+use Rattle.spans.specs.declared.Kind.{Kind}
 use Rattle.groups.specs.Group.{groupValues}
 use Rattle.rows.specs.Systems.{isSystem}
 use Rattle.rows.specs.Editions.{isEdition}
@@ -49,29 +50,45 @@ module _ (kind : Kind) (window next : List ℤ) where
       -- a list that another fresh record ends
       lendingAll (freshRecord (setupOf 12 edition)) ∷
       lendingAll (addRow (setupOf 12 edition) (replicate orderCount 1)) ∷
-      -- an observation, here of no window, begins a list as a fresh record does; one of no kind and one that is short change nothing
+      -- an observation, here of no window, begins a list as a fresh record does
       lendingAll (observeWindows 1 own [] 0 0) ∷
+      -- one of no kind, of no system, of no edition, a short one and one with a sample out of range change nothing
       lendingAll (observeWindows 5 (setupOf 12 edition) [] 0 0) ∷
+      lendingAll (observeWindows 1 (setupOf 11 edition) [] 0 0) ∷
+      lendingAll (observeWindows 1 (setupOf 12 2) [] 0 0) ∷
       lendingAll (observeWindows 1 (setupOf 12 edition) [] 0 1) ∷
+      lendingAll (observeWindows 1 (setupOf 12 edition) (replicate 2048 (pos 131072)) 0 1) ∷
+      -- a verdict before the first window
+      lendingAll (askVerdict (asked 3 65 1000000)) ∷
       lendingAll (addRow own (groupValues kind own (linesOf window))) ∷
-      -- another system, another edition, no edition, 39 values, a verdict in each class, a
-      -- three-second value, a fresh record of no system and 422 words change nothing
+      -- rows of another system, of another edition, of no edition and of no system are refused
       lendingAll (addRow (setupOf 12 edition) (replicate orderCount 1)) ∷
       lendingAll (addRow (setupOf 10 (1 - edition)) (replicate orderCount 1)) ∷
       lendingAll (addRow (setupOf 10 2) (replicate orderCount 1)) ∷
+      lendingAll (addRow (setupOf 11 edition) (replicate orderCount 1)) ∷
+      -- 39 values, a verdict in each class and of no order, in no class and with no K, a three-second value of no order and
+      -- before the fifteenth row, a fresh record of no system and 422 words change nothing
       lendingAll (addRow own (replicate 39 1)) ∷
       lendingAll (askVerdict (asked 3 65 1000000)) ∷
       lendingAll (askVerdict (asked 3 66 1000000)) ∷
+      lendingAll (askVerdict (asked 1 65 1000000)) ∷
+      lendingAll (askVerdict (asked 3 67 1000000)) ∷
+      lendingAll (askVerdict (asked 3 65 0)) ∷
+      lendingAll (askThreeSecond 0) ∷
       lendingAll (askThreeSecond 3) ∷
       lendingAll (freshRecord (setupOf 0 edition)) ∷
       record { lent = 422; asked = freshRecord (setupOf 12 edition) } ∷
-      replicate later (lendingAll (addRow own (groupValues kind own (linesOf next))))
+      -- the rows, and what is then asked
+      replicate later (lendingAll (addRow own (groupValues kind own (linesOf next)))) ++
+      lendingAll (askVerdict (asked 3 65 1000000)) ∷
+      lendingAll (askThreeSecond 3) ∷
+      []
 
   calls-come-to :
       (edition : ℕ) → isEdition edition ≡ true →
       (listAfter none (calls 1 edition) ≡ some (listOf kind window next 1 edition)) ×
       (listAfter none (calls 15 edition) ≡ some (listOf kind window next 15 edition))
-  unfolding calls listAfter listAtExit listAsked withCall isKind kinds observeRefusal observeChecks windowRows isSetup isSystem isEdition groupValues tabulate listOf workedRow otherRows
+  unfolding calls listAfter listAtExit listAsked withCall isKind kinds observeRefusal observeChecks windowRows windowAt outOfRange anyOf isSetup isSystem isEdition groupValues tabulate listOf workedRow otherRows
   calls-come-to =
       each-edition
       (λ edition.

@@ -14,7 +14,7 @@ use Rattle.rows.specs.Orders.{isOrder}
 use Rattle.rows.specs.Systems.{isSystem}
 use Rattle.rows.specs.Editions.{isEdition}
 use Rattle.rows.specs.Setups.{isSetup, sameSetup}
-use Rattle.groups.specs.declared.Kind.the-variants.{HarmonicGroup}
+use Rattle.spans.specs.declared.Kind.the-variants.{HarmonicGroup}
 use Rattle.groups.proofs.GroupSum.{accepted-value, groupRefusal-of-place}
 use Rattle.observation.specs.Smoothing.{smoothedValue}
 use Rattle.observation.specs.Soundness.{isSound, noneAbove, allZero}
@@ -26,7 +26,7 @@ use Rattle.glitch.proofs.Smoothed.{smoothed-after, row-value}
 use Rattle.glitch.proofs.Worked.{Two, window, silence, pulse, at12, groupOf, worked-values, alike, size}
 use Rattle.exported_windows.specs.Kinds.{kinds, isKind, kindWith}
 use Rattle.exported_windows.specs.GroupCalls.{groupCallRefusal, groupCallExit, rowCallRefusal, rowCallExit}
-use Rattle.exported_answers.specs.LentWords.{wordsFrom}
+use Rattle.lists.specs.LentWords.{wordsFrom}
 use Rattle.record_words.specs.Halves.{unpacked}
 use Rattle.record_words.specs.Parts.{partsFrom}
 use Rattle.record_words.specs.Words.{ofParts, recordOf}

@@ -12,17 +12,18 @@ use Rattle.algebra.specs.Fraction.{whole, _+ᶠ_, _≤ᶠ_}
 use Rattle.refusals.specs.Numbers.{noRefusal, tooFewWindows}
 use Rattle.rows.specs.declared.Setup.{Setup}
 use Rattle.rows.specs.Orders.{orderCount}
-use Rattle.spectrum.specs.Line.{lineCount, windowAt}
+use Rattle.spectral_lines.specs.Line.{lineCount}
+use Rattle.windows.specs.Window.{windowAt}
 use Rattle.spectrum.specs.Spectrum.{spectrumRefusal, spectrumExit}
-use Rattle.groups.specs.declared.Kind.{Kind}
-use Rattle.groups.specs.declared.Kind.the-variants.{HarmonicGroup}
-use Rattle.limits.specs.declared.Class.{Class}
+use Rattle.spans.specs.declared.Kind.{Kind}
+use Rattle.spans.specs.declared.Kind.the-variants.{HarmonicGroup}
 use Rattle.limits.specs.Letters.{letterOf}
 use Rattle.verdict.specs.declared.Question.{Question}
 use Rattle.verdict.specs.declared.Verdict.{Verdict}
 use Rattle.observation.specs.Smoothing.{smoothedMargin}
 use Rattle.observation.specs.Latest.{rowsKept}
 use Rattle.observation.specs.BookCalls.{AcceptedFit}
+use Rattle.verdict.specs.Question.{classAsked}
 use Rattle.verdict.specs.Call.{orderNumber}
 use Rattle.three_seconds.specs.ThreeSecond.{threeSecondOf}
 use Rattle.accuracy.specs.Distance.{EveryOrder, WithinMargin, ValueNear}
@@ -32,7 +33,7 @@ use Rattle.accuracy.specs.LatestRows.{threeSecondMargin, exactThreeSecond, last
 use Rattle.accuracy.specs.Claim.{WorkedList, LBook, UBook, Keeps, ListHolds, observedList}
 use Rattle.exported_windows.specs.Kinds.{kindWith}
 use Rattle.exported_windows.specs.GroupCalls.{groupCallRefusal, groupCallExit, rowCallRefusal, rowCallExit}
-use Rattle.exported_windows.specs.PanelCall.{panelCallRefusal, panelCallValuesExit}
+use Rattle.exported_lines.specs.PanelCall.{panelCallRefusal, panelCallValuesExit}
 use Rattle.record_words.specs.Words.{smoothedPlace, recordWords, wordsOf}
 use Rattle.exported_records.specs.RecordCalls.{lentRow}
 use Rattle.exported_windows.specs.ObserveCall.{observeCallRefusal, observeCallExit}
@@ -44,14 +45,13 @@ use Rattle.exported_accuracy.specs.Calls.{Call, wordsAfter, listAfter}
 abbrev pub smoothedWord : List ℕ → ℕ → ℕ
 smoothedWord words order = getD words (smoothedPlace + (order - 1)) 0
 
--- a verdict call that is not refused leaves the number of a verdict of the order that keeps its claim in the class that the letter names, whatever the number was before
+-- a verdict call that is not refused leaves the number of a verdict of the order that keeps its claim in the class that is asked, whose letter was given, whatever the number was before
 pub record CalledVerdict (kind : Kind) (list : CallList) (words : List ℕ) (q : Question) : Type 0 where
-  pub class : Class
-  pub named : letterOf class ≡ q .letter
+  pub named : letterOf (classAsked q) ≡ q .letter
   pub verdict : Verdict
   pub of-order : orderNumber verdict ≡ q .order
   pub number : (before : ℕ) → verdictCallExit words q before ≡ verdictNumber verdict
-  pub kept : Keeps kind list class (q .order) (q .scale) verdict
+  pub kept : Keeps kind list (classAsked q) (q .order) (q .scale) verdict
 
 -- what the call for the three-second value answers of some words after any list of add row calls, whatever 32-bit
 -- values its rows hold (document 02, card 8)

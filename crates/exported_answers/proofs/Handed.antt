@@ -10,7 +10,7 @@ use borrow.Author.Tests.{eqb-true, eqb-false, ne-eqb, not-false}
 use Rattle.refusals.specs.Numbers.{noRefusal}
 use Rattle.refusals.specs.Answers.{unlessRefused, answer}
 use Rattle.refusals.specs.declared.Answer.{Answer}
-use Rattle.refusals.proofs.Answers.{no-fault}
+use Rattle.refusals.proofs.Answers.{no-fault, received-eq}
 use Rattle.exported_answers.specs.OwnChecks.{wrongWordCount}
 
 -- ---- the call's own checks
@@ -43,16 +43,6 @@ count-passed count rest words e =
     (eqb-true (length words) count (not-false _ (passed .0)), passed .1)
 
 -- ---- the library's answer
-
--- what the library puts beside a refusal never reaches the caller
-pub received-eq :
-    {A B : Type 0} (f : A → B) (refusal : ℕ) (accepted other : A) (before : B) →
-    unlessRefused refusal (f (unlessRefused refusal accepted other)) before ≡ unlessRefused refusal (f accepted) before
-received-eq {A} {B} f refusal accepted other before = by-test (eqb refusal noRefusal)
-  where
-    by-test : (none : Bool) → cond none (f (cond none accepted other)) before ≡ cond none (f accepted) before
-    by-test true = refl
-    by-test false = refl
 
 -- an answer: the refusal, and the value unless it is refused
 pub handed-answer :

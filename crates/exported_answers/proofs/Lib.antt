@@ -1,3 +1,2 @@
 -- What the proofs of several exported functions use.
 pub mod Handed
-pub mod LentWords

@@ -1,3 +1,2 @@
--- What an exported call checks itself, and the words that it reads and hands over.
+-- What an exported call checks itself.
 pub mod OwnChecks
-pub mod LentWords

@@ -2,13 +2,13 @@
 // the proved library. It answers a refusal's number, NO_REFUSAL where it accepts the call, and a refused
 // call leaves every buffer as it was. What the caller receives of an answer, its value or the values of a
 // row, is handed over here.
-use lists::number_at;
+use lists::put_numbers;
 use refusals::Answer;
 use refusals::NO_REFUSAL;
 ghost use mathlib.Core.Path.{_≡_};
 ghost use lib.ListN.{length};
 ghost use Rattle.refusals.specs.Answers.{unlessRefused};
-ghost use Rattle.exported_answers.specs.LentWords.{wordsFrom};
+ghost use Rattle.lists.specs.LentWords.{wordsFrom};
 
 // A slice of the wrong number of words for a row or a record: a refusal of an exported call's own.
 pub const WRONG_WORD_COUNT: u32 = 102;
@@ -24,24 +24,13 @@ pub fn hand_over(answer: Answer, value: &mut u64) -> u32
     answer.refusal
 }
 
-// Writes the values of a row, 0 past the last.
-fn put_row(row: &[u32], values: &mut [u32])
-    ensures { λ _. ⌜ now (values .exit) ≡ wordsFrom 0 (length (now (values .entry))) (now (row .entry)) ⌝ }
-{
-    let mut i = 0;
-    while i < values.len() {
-        values[i] = number_at(row, i);
-        i += 1;
-    }
-}
-
 // Hands the values of a row to the caller, unless they are refused, and the refusal's number.
 pub fn hand_over_row(refusal: u32, row: &[u32], values: &mut [u32]) -> u32
     ensures { λ r. ⌜ r ≡ refusal ⌝ }
     ensures { λ _. ⌜ now (values .exit) ≡ unlessRefused refusal (wordsFrom 0 (length (now (values .entry))) (now (row .entry))) (now (values .entry)) ⌝ }
 {
     if refusal == NO_REFUSAL {
-        put_row(row, values);
+        put_numbers(row, values);
     }
     refusal
 }

@@ -1,6 +1,6 @@
 // The call for C, C++ and Rust programs from an order and a class to the limit; include/kifsang.h declares it.
 // exported_answers says what the exported calls have in common.
-use fractions::Fraction;
+use fractions::Ratio;
 use limits::order_limit;
 use refusals::NO_REFUSAL;
 ghost use mathlib.Core.Path.{_≡_};
@@ -21,7 +21,7 @@ pub extern "C" fn kifsang_limit(
 {
     let answer = order_limit(order, letter);
     if answer.refusal == NO_REFUSAL {
-        let limit: Fraction = answer.limit;
+        let limit: Ratio = answer.limit;
         *numerator = limit.numerator;
         *denominator = limit.denominator;
     }

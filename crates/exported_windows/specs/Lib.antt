@@ -1,5 +1,4 @@
--- What the exported calls of windows, lines and groups answer, over the definitions of the library that they pass on to. Those for lines answer what `spectrum` defines.
+-- What the exported calls of groups and of windows answer, over the definitions of the library that they pass on to.
 pub mod Kinds
 pub mod GroupCalls
-pub mod PanelCall
 pub mod ObserveCall

@@ -10,19 +10,19 @@ use lib.IntN.{ℤ}
 use Rattle.algebra.specs.Weighted.{Place, weightedSquares, difference, DifferencesWithin, WithinUnits}
 use Rattle.algebra.proofs.Integer.{one-*ℤ}
 use Rattle.algebra.proofs.Weighted.{le-of-square-le}
-use Rattle.integers.proofs.Root.{Root}
+use Rattle.square_root.proofs.RootLaws.{Root}
 use Rattle.refusals.specs.Numbers.{noRefusal}
 use Rattle.sine.specs.Wave.{tableSine, tableCosine}
-use Rattle.spectrum.specs.Line.{roundedSum, lineOf}
-use Rattle.spectrum.specs.Spectrum.{InRange}
+use Rattle.spectral_lines.specs.Line.{roundedSum, lineOf}
+use Rattle.windows.specs.Window.{InRange}
 use Rattle.rows.specs.Orders.{isOrder}
 use Rattle.rows.specs.Setups.{isSetup}
 use Rattle.rows.specs.declared.Setup.{Setup}
-use Rattle.groups.specs.declared.Kind.{Kind}
-use Rattle.groups.specs.Spans.{Weighted, weightsOf, totalTwiceWeight, largestTotal, weightedSum}
+use Rattle.spans.specs.declared.Kind.{Kind}
+use Rattle.spans.specs.Spans.{Weighted, weightsOf, totalTwiceWeight, largestTotal, weightedSum}
 use Rattle.groups.specs.Group.{valueOver, groupRefusal, groupAnswer, groupValue}
 use Rattle.groups.proofs.GroupSum.{accepted-value}
-use Rattle.groups.proofs.Weights.{weightsOf-total-le, weightedSum-le-total}
+use Rattle.spans.proofs.Weights.{weightsOf-total-le, weightedSum-le-total}
 use Rattle.accuracy.proofs.AcceptedWindows.{window-in-range, lines-left}
 use Rattle.accuracy.proofs.Places.{roundedSums, placesOf, squares-at, value-root, value-within}
 use Rattle.accuracy.proofs.GroupDistance.{is-order, lines-accepted, lines-of-group}

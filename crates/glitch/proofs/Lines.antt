@@ -16,9 +16,10 @@ use Rattle.algebra.proofs.SumTo.{sumTo--ℤ, sumTo-one-natAbs-le}
 use Rattle.algebra.proofs.Weighted.{le-of-square-le, double-product-le}
 use Rattle.sine.specs.Wave.{tableSine, tableCosine}
 use Rattle.sine.proofs.Circle.{largestRadius, table-circle}
-use Rattle.spectrum.specs.Line.{windowLength, sumScale, lineSum, roundedSum}
-use Rattle.spectrum.proofs.Bounds.{summand}
-use Rattle.groups.specs.Spans.{largestTotal}
+use Rattle.windows.specs.Window.{windowLength}
+use Rattle.spectral_lines.specs.Line.{sumScale, lineSum, roundedSum}
+use Rattle.spectral_lines.proofs.Bounds.{summand}
+use Rattle.spans.specs.Spans.{largestTotal}
 use Rattle.glitch.specs.Windows.{AlikeBut, glitchSize}
 
 -- the summands at one index differ by the samples' difference times the wave

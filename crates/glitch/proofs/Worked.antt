@@ -15,14 +15,15 @@ use Rattle.algebra.specs.Largest.{largest}
 use Rattle.algebra.specs.Lists.{tabulate, anyOf}
 use Rattle.algebra.specs.Rounding.{nearest, nearestℤ, floorOver, roundedUp}
 use Rattle.algebra.specs.Weighted.{sumOver}
-use Rattle.integers.specs.Root.{rootOf}
+use Rattle.square_root.specs.Root.{rootOf}
 use Rattle.refusals.specs.Numbers.{noRefusal}
 use Rattle.sine.specs.ExactSine.{factorial, denominator, term, added, takenAway, quarterSine}
 use Rattle.sine.specs.Turn.{overHalf, overTurn}
 use Rattle.sine.specs.Wave.{tableEntry, tableSine, tableCosine}
-use Rattle.spectrum.specs.Line.{sumScale, windowAt}
-use Rattle.spectrum.specs.Spectrum.{largestSample, outOfRange, spectrumRefusal}
-use Rattle.spectrum.proofs.Pulse.{twoSamples, twoSamples-line}
+use Rattle.spectral_lines.specs.Line.{sumScale}
+use Rattle.windows.specs.Window.{windowAt, largestSample, outOfRange}
+use Rattle.spectrum.specs.Spectrum.{spectrumRefusal}
+use Rattle.spectral_lines.proofs.Pulse.{twoSamples, twoSamples-line}
 use Rattle.rows.specs.Orders.{isOrder}
 use Rattle.rows.specs.Systems.{isSystem}
 use Rattle.rows.specs.Editions.{isEdition}
@@ -31,8 +32,8 @@ use Rattle.rows.specs.Rows.{ValuesFit}
 use Rattle.rows.specs.declared.Row.{Row}
 use Rattle.rows.specs.declared.RowAnswer.{RowAnswer}
 use Rattle.rows.specs.declared.Setup.{Setup}
-use Rattle.groups.specs.declared.Kind.the-variants.{HarmonicGroup, HarmonicSubgroup}
-use Rattle.groups.specs.Spans.{spanOf, groupedAs, weightsIn, weightsOf, weightedSum}
+use Rattle.spans.specs.declared.Kind.the-variants.{HarmonicGroup, HarmonicSubgroup}
+use Rattle.spans.specs.Spans.{spanOf, groupedAs, weightsIn, weightsOf, weightedSum}
 use Rattle.groups.specs.Group.{valueOver, groupAnswer}
 use Rattle.groups.proofs.GroupSum.{groupValues-le, groupRowAnswer-values}
 use Rattle.observation.specs.declared.Observation.{Observation}

@@ -2,10 +2,9 @@
 use mathlib.Core.Path.{_≡_}
 use mathlib.Core.List.{List}
 use Prim.Native.Nat.{ℕ}
-use lib.IntN.{ℤ, pos, natAbs, _-ℤ_}
-use lib.ListN.{getD}
+use lib.IntN.{ℤ, natAbs, _-ℤ_}
 use Rattle.refusals.specs.Numbers.{noRefusal}
-use Rattle.spectrum.specs.Line.{windowAt}
+use Rattle.windows.specs.Window.{windowAt, sampleAt}
 use Rattle.spectrum.specs.Spectrum.{spectrumRefusal, spectrumExit}
 
 -- an accepted window: what a call of `spectrum` is given that it does not refuse
@@ -22,10 +21,6 @@ samplesOf w = windowAt (w .recording) (w .start)
 -- its lines, which the call leaves in the buffer
 abbrev pub linesLeft : AcceptedWindow → List ℕ
 linesLeft w = spectrumExit (w .recording) (w .start) (w .buffer)
-
--- sample j of a window
-abbrev pub sampleAt : List ℤ → ℕ → ℤ
-sampleAt window j = getD window j (pos 0)
 
 -- "alike but for one sample", that at the place
 abbrev pub AlikeBut : ℕ → List ℤ → List ℤ → Type 0

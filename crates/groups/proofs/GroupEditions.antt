@@ -7,10 +7,10 @@ use lib.Dec.{eqb}
 use borrow.Author.Tests.{ne-eqb}
 use Rattle.rows.specs.Editions.{edition2, editionA1}
 use Rattle.rows.specs.Setups.{setupOf}
-use Rattle.groups.specs.declared.Kind.{Kind}
-use Rattle.groups.specs.declared.Kind.the-variants.{Component, HarmonicGroup, HarmonicSubgroup, InterharmonicGroup, InterharmonicCentredSubgroup}
-use Rattle.groups.specs.Spans.{groupedAs, spanOf, weightsIn, weightsOf}
-use Rattle.groups.specs.Group.{lineAt, valueOver, groupValue}
+use Rattle.spans.specs.declared.Kind.{Kind}
+use Rattle.spans.specs.declared.Kind.the-variants.{Component, HarmonicGroup, HarmonicSubgroup, InterharmonicGroup, InterharmonicCentredSubgroup}
+use Rattle.spans.specs.Spans.{groupedAs, spanOf, weightsIn, weightsOf, lineAt}
+use Rattle.groups.specs.Group.{valueOver, groupValue}
 
 -- where the edition or the order is another, every kind takes its own lines
 groupedAs-own : (kind : Kind) (edition h : ℕ) → (eqb edition editionA1 && eqb h 1) ≡ false → groupedAs kind edition h ≡ kind

@@ -12,7 +12,7 @@ use lib.ListN.{length, getD, replicate, List·getD-eq-default}
 use borrow.Author.Tests.{ltb-false, eqb-true, eq-eqb, ne-eqb, not-false}
 use Rattle.algebra.specs.Lists.{tabulate, anyOf}
 use Rattle.algebra.proofs.Lists.{length-tabulate, getD-tabulate, anyOf-none, getD-tabulate-le, tabulate-same}
-use Rattle.integers.proofs.Root.{lt-rootLimit, root-of-largest, root-le-of-le}
+use Rattle.square_root.proofs.RootLaws.{lt-rootLimit, root-of-largest, root-le-of-le}
 use Rattle.refusals.specs.Numbers.{noRefusal, unknownSystem, unknownEdition, orderOutOfRange, wrongLineCount, lineTooLarge}
 use Rattle.refusals.proofs.Answers.{no-faults, unlessRefused-accepted, unlessRefused-refused}
 use Rattle.rows.specs.Systems.{isSystem}
@@ -23,13 +23,14 @@ use Rattle.rows.proofs.Setups.{isSetup-known, setup-parts}
 use Rattle.rows.specs.Orders.{orderCount, isOrder}
 use Rattle.rows.specs.Rows.{largestValue, refusedRow, ValuesFit}
 use Rattle.rows.proofs.Orders.{order-of-place}
-use Rattle.spectrum.specs.Line.{lineCount, largestLine, linesOf}
-use Rattle.spectrum.specs.Spectrum.{outOfRange}
-use Rattle.spectrum.proofs.Lines.{length-linesOf, no-line-too-large}
-use Rattle.groups.specs.declared.Kind.{Kind}
-use Rattle.groups.specs.Spans.{Weighted, weightsOf, totalTwiceWeight, largestTotal, weightedSum}
-use Rattle.groups.specs.Group.{lineAt, groupChecks, groupRefusal, valueOver, groupValue, groupAnswer, groupValues, groupRowRefusal, groupRowAnswer, windowRow}
-use Rattle.groups.proofs.Weights.{weightedSum-le-total, weightsOf-total-le}
+use Rattle.spectral_lines.specs.Line.{lineCount, largestLine, linesOf}
+use Rattle.windows.specs.Window.{outOfRange}
+use Rattle.spectral_lines.proofs.Lines.{length-linesOf, no-line-too-large}
+use Rattle.spans.specs.declared.Kind.{Kind}
+use Rattle.spans.specs.Spans.{Weighted, weightsOf, totalTwiceWeight, largestTotal, weightedSum, lineAt}
+use Rattle.groups.specs.Group.{groupChecks, groupRefusal, valueOver, groupValue, groupAnswer, groupValues, groupRowRefusal, groupRowAnswer, windowRow}
+use Rattle.spans.proofs.Weights.{weightsOf-total-le}
+use Rattle.spans.proofs.SumBounds.{weightedSum-lt}
 
 -- ---- a group that is not refused
 
@@ -49,26 +50,6 @@ accepted setup order lines e =
       line-count = eqb-true _ _ (not-false _ (passed wrongLineCount));
       in-range = passed lineTooLarge;
     }
-
--- where no line is above the largest that is taken, no line read is, also none past the end
-lineAt-le : (lines : List ℕ) → anyOf (ltb largestLine) lines ≡ false → (k : ℕ) → lineAt lines k ≤ largestLine
-lineAt-le lines e k = by-place (decLt k (length lines))
-  where
-    by-place : Dec (k < length lines) → lineAt lines k ≤ largestLine
-    by-place (yes within) = ltb-false largestLine (lineAt lines k) (anyOf-none (ltb largestLine) lines k 0 e within)
-    by-place (no past) =
-        let none : lineAt lines k ≡ 0 = List·getD-eq-default lines 0 (omega arith) in
-        omega arith
-
--- lines in range, with any weights that add up to at most 12: their sum of 2×w×L fits 64 bits
-pub weightedSum-lt : (lines : List ℕ) → anyOf (ltb largestLine) lines ≡ false
-    → (xs : List Weighted) → totalTwiceWeight xs ≤ largestTotal → weightedSum (lineAt lines) xs < 2 ^ 64
-weightedSum-lt lines e xs h =
-    omega (
-      arith,
-      weightedSum-le-total (lineAt lines) largestLine (lineAt-le lines e) xs,
-      mul-le-mul-right largestLine h,
-    )
 
 module _ (kind : Kind) (setup : Setup) (order : ℕ) (lines : List ℕ) where
   -- the sum of every group that is not refused

@@ -1,8 +1,4 @@
--- The theorems of the groups.
-pub mod Weights
+-- The theorems of groups: what an accepted call tells, the editions, and the worked edges of the calls.
 pub mod GroupSum
 pub mod GroupEditions
-pub mod PanelLines
-pub mod PanelRow
 pub mod Worked
-pub mod WorkedPanel

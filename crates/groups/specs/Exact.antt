@@ -5,9 +5,9 @@ use lib.IntN.{ℤ}
 use Rattle.algebra.specs.Fraction.{Fraction}
 use Rattle.sine.specs.ExactSine.{denominator}
 use Rattle.rows.specs.declared.Setup.{Setup}
-use Rattle.spectrum.specs.Exact.{exactLine, denominator-square-pos}
-use Rattle.groups.specs.declared.Kind.{Kind}
-use Rattle.groups.specs.Spans.{Weighted, weightsOf, weightedSum}
+use Rattle.spectral_lines.specs.Exact.{exactLine, denominator-square-pos}
+use Rattle.spans.specs.declared.Kind.{Kind}
+use Rattle.spans.specs.Spans.{Weighted, weightsOf, weightedSum}
 
 -- over some lines: the sum of 2×w×L of the exact lines, over the square of the exact sine's denominator
 unfoldable pub exactOver : List Weighted → List ℤ → Fraction

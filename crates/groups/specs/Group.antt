@@ -1,13 +1,10 @@
 -- The group value, the row of them and what the calls answer (document 01, "Groups" and the refusal table's row "group value"; document 02, card 7, for the edition).
-use mathlib.Core.Bool.{Bool, not}
-use mathlib.Core.List.{List, [], _∷_, _++_}
+use mathlib.Core.Bool.{Bool}
+use mathlib.Core.List.{List, _∷_, _++_}
 use Prim.Native.Nat.{ℕ, _+_}
-use lib.Dec.{eqb, ltb}
 use lib.IntN.{ℤ}
-use lib.ListN.{length, getD}
-use Rattle.algebra.specs.Lists.{tabulate, anyOf}
-use Rattle.integers.specs.Root.{rootOf}
-use Rattle.refusals.specs.Numbers.{wrongLineCount, lineTooLarge}
+use Rattle.algebra.specs.Lists.{tabulate}
+use Rattle.square_root.specs.Root.{rootOf}
 use Rattle.refusals.specs.Answers.{firstFault, unlessRefused, answer}
 use Rattle.refusals.specs.declared.Answer.{Answer}
 use Rattle.rows.specs.Orders.{orderCount, orderCheck}
@@ -16,13 +13,10 @@ use Rattle.rows.specs.declared.Setup.{Setup}
 use Rattle.rows.specs.Rows.{refusedRow}
 use Rattle.rows.specs.declared.Row.{Row}
 use Rattle.rows.specs.declared.RowAnswer.{RowAnswer}
-use Rattle.spectrum.specs.Line.{lineCount, largestLine, linesOf}
-use Rattle.groups.specs.declared.Kind.{Kind}
-use Rattle.groups.specs.Spans.{Weighted, weightsOf, weightedSum}
-
--- the line with a number, 0 past the end
-abbrev pub lineAt : List ℕ → ℕ → ℕ
-lineAt lines k = getD lines k 0
+use Rattle.spectral_lines.specs.Line.{lineCount, linesOf}
+use Rattle.spans.specs.declared.Kind.{Kind}
+use Rattle.spans.specs.Checks.{lineChecks}
+use Rattle.spans.specs.Spans.{Weighted, weightsOf, weightedSum, lineAt}
 
 -- the whole part of the square root of the sum of 2×w×L over some lines, L given by the line's number
 unfoldable pub valueOver : List Weighted → (ℕ → ℕ) → ℕ
@@ -33,13 +27,12 @@ unfoldable pub groupValue : Kind → Setup → ℕ → List ℕ → ℕ
 groupValue kind setup order lines = valueOver (weightsOf kind setup order) (lineAt lines)
 
 -- 4 not 512 lines; 5 any of the 512 above 2^59
-abbrev pub lineChecks : List ℕ → List (Bool × ℕ)
-lineChecks lines =
-    (not (eqb (length lines) lineCount), wrongLineCount) ∷ (anyOf (ltb largestLine) lines, lineTooLarge) ∷ []
+abbrev pub spectrumLineChecks : List ℕ → List (Bool × ℕ)
+spectrumLineChecks = lineChecks lineCount
 
 -- 1 system not 10 or 12; 19 edition not 0 or 1; 6 order outside 1..40; 4; 5
 abbrev pub groupChecks : Setup → ℕ → List ℕ → List (Bool × ℕ)
-groupChecks setup order lines = setupChecks setup ++ orderCheck order ∷ lineChecks lines
+groupChecks setup order lines = setupChecks setup ++ orderCheck order ∷ spectrumLineChecks lines
 
 unfoldable pub groupRefusal : Setup → ℕ → List ℕ → ℕ
 groupRefusal setup order lines = firstFault (groupChecks setup order lines)
@@ -53,7 +46,7 @@ groupValues kind setup lines = tabulate orderCount (λ i. groupAnswer kind setup
 
 -- all of them in one call, which is asked for no order: 1; 19; 4; 5
 abbrev pub groupRowChecks : Setup → List ℕ → List (Bool × ℕ)
-groupRowChecks setup lines = setupChecks setup ++ lineChecks lines
+groupRowChecks setup lines = setupChecks setup ++ spectrumLineChecks lines
 
 unfoldable pub groupRowRefusal : Setup → List ℕ → ℕ
 groupRowRefusal setup lines = firstFault (groupRowChecks setup lines)

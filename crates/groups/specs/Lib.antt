@@ -1,5 +1,3 @@
--- Groups of lines: their spans and weights, their values, the rows of them, a row with little scratch, and the exact groups.
-pub mod Spans
+-- Groups of lines: their values, the rows of them, and the exact groups.
 pub mod Exact
 pub mod Group
-pub mod Panel

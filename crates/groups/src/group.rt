@@ -1,15 +1,7 @@
 // The group value of a kind, a setup and an order over the 512 lines of a window, and the row of all orders.
-use crate::Kind;
-use crate::spans::grouped_as;
-use crate::spans::span_of;
-use crate::spans::span_sum;
-use integers::square_root::root;
-use lists::any_above;
 use refusals::Answer;
-use refusals::LINE_TOO_LARGE;
 use refusals::NO_REFUSAL;
 use refusals::ORDER_OUT_OF_RANGE;
-use refusals::WRONG_LINE_COUNT;
 use refusals::fault_or;
 use rows::ORDER_COUNT;
 use rows::Row;
@@ -18,31 +10,26 @@ use rows::Setup;
 use rows::is_order;
 use rows::refused_row;
 use rows::setup_fault_or;
-use spectrum::LINE_COUNT;
+use spans::Kind;
+use spans::grouped_as;
+use spans::line_refusal;
+use spans::span_of;
+use spans::span_sum;
+use spectral_lines::LINE_COUNT;
+use square_root::root;
 ghost use mathlib.Core.Path.{_≡_};
 ghost use Rattle.refusals.specs.Numbers.{noRefusal};
-ghost use Rattle.refusals.specs.Answers.{firstFault};
-ghost use Rattle.groups.specs.Group.{lineChecks, groupRefusal, groupValue, groupAnswer, groupValues, groupRowRefusal, groupRowAnswer};
-
-// The largest line that is taken.
-const LARGEST_LINE: u64 = 1 << 59;
-
-// The checks of the lines.
-fn line_refusal(lines: &[u64]) -> u32
-    ensures { λ r. ⌜ r ≡ firstFault (lineChecks (now (lines .entry))) ⌝ }
-{
-    fault_or(
-        lines.len() != LINE_COUNT,
-        WRONG_LINE_COUNT,
-        fault_or(any_above(lines, LARGEST_LINE), LINE_TOO_LARGE, NO_REFUSAL),
-    )
-}
+ghost use Rattle.groups.specs.Group.{groupRefusal, groupValue, groupAnswer, groupValues, groupRowRefusal, groupRowAnswer};
 
 // The refusal table's row "group value".
 fn group_refusal(setup: Setup, order: u32, lines: &[u64]) -> u32
     ensures { λ r. ⌜ r ≡ groupRefusal setup order (now (lines .entry)) ⌝ }
 {
-    let rest = fault_or(!is_order(order), ORDER_OUT_OF_RANGE, line_refusal(lines));
+    let rest = fault_or(
+        !is_order(order),
+        ORDER_OUT_OF_RANGE,
+        line_refusal(lines, LINE_COUNT),
+    );
     setup_fault_or(setup, rest)
 }
 
@@ -50,7 +37,7 @@ fn group_refusal(setup: Setup, order: u32, lines: &[u64]) -> u32
 fn group_row_refusal(setup: Setup, lines: &[u64]) -> u32
     ensures { λ r. ⌜ r ≡ groupRowRefusal setup (now (lines .entry)) ⌝ }
 {
-    setup_fault_or(setup, line_refusal(lines))
+    setup_fault_or(setup, line_refusal(lines, LINE_COUNT))
 }
 
 // The whole part of the square root of the sum of 2×w×L, for a call that is not refused.

@@ -4,12 +4,12 @@
 // window's lines at a time. A read or a write that fails ends in a line on standard error, and no
 // listing is written after a read that failed.
 //
-// Proved: it stops reading only where the reading is refused, where fewer bytes came than were asked
-// for, or where a read is taken for failed; where none is, it hands `finish` a reading that gives what
-// document 01 says of some bytes, those that came (specs/Input.antt). What comes after a refusal does
-// not matter (harmlist_output/specs/Follows.antt). Assumed of `read` is only how many bytes it answers.
-// Tested: that the bytes are the input's, that fewer come at its end alone, that a read which fails is
-// taken for failed, and that the output is written (tests/run, tests/edges).
+// Proved: where no read is taken for failed, it hands `finish` a reading that gives what document 01 says
+// of some bytes, those that came; and it stops reading only where fewer came than were asked for, or
+// where document 01 says the same of these bytes with any more after them (specs/Input.antt). Assumed of
+// `read` is only how many bytes it answers. Tested: that the bytes are the input's, that fewer come at
+// its end alone, that a read which fails is taken for failed, and that the output is written (tests/run,
+// tests/edges).
 use harmlist_output::finish;
 use libc::EAGAIN;
 use libc::EINTR;

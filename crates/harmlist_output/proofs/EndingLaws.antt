@@ -1,21 +1,22 @@
 -- The end of a reading: its refusal, what is written, and what the buffer holds then, a law for each way.
-use mathlib.Core.Bool.{true, cond, not}
-use mathlib.Core.List.{List, _++_}
+use mathlib.Core.Bool.{Bool, true, cond, not}
+use mathlib.Core.List.{List, [], _∷_, _++_}
 use mathlib.Core.Path.{_≡_, refl, sym, ap, _∙_}
 use Prim.Native.Nat.{ℕ, _<_, _≤_}
 use native.Mathlib.Decide.{decLe, decLt}
 use native.Mathlib.Omega.{arith}
-use borrow.Author.Tests.{ne-eqb, lt-ltb, le-ltb, not-false}
+use borrow.Author.Tests.{ne-eqb, lt-ltb, le-ltb}
 use lib.Dec.{eqb, ltb}
 use lib.ListN.{length, drop, length-append, length-drop}
 use Rattle.refusals.specs.Numbers.{noRefusal, unsoundRecord, noWindow, wrongBufferLength, largestRefusal}
-use Rattle.refusals.specs.Answers.{answer}
+use Rattle.refusals.specs.Answers.{firstFault, answer}
 use Rattle.refusals.specs.declared.Answer.{Answer}
 use Rattle.refusals.proofs.Answers.{no-fault}
 use Rattle.listing.specs.Listing.{listingText, listingRoom, listingRefusal, listingExit}
 use Rattle.listing.specs.RefusalLine.{refusalLineLength, refusalLine}
 use Rattle.listing.proofs.RefusalLine.{refusalLine-length}
-use Rattle.observation.specs.Soundness.{isSound}
+use Rattle.observation.specs.Soundness.{isSound, soundFirst}
+use Rattle.observation.proofs.SoundFirst.{soundFirst-none}
 use Rattle.recordings.specs.declared.Reading.{Reading}
 use Rattle.harmlist_output.specs.Ending.{finishRefusal, outputOf, outputExit}
 use Rattle.recordings.proofs.FirstOf.{no-earlier, cond-le}
@@ -65,12 +66,11 @@ module _ (reading : Reading) where
   pub finishRefusal-sound : finishRefusal reading ≡ noRefusal → isSound (reading .observation) ≡ true
   unfolding finishRefusal
   finishRefusal-sound e =
-      let none = cond (eqb (reading .observation .windows) 0) noWindow noRefusal in
-      let unsound = not (isSound (reading .observation)) in
-      let sound = cond unsound unsoundRecord none in
-      let ended = cond (not (eqb (reading .refusal) noRefusal)) (reading .refusal) sound in
+      let none : List (Bool × ℕ) = (eqb (reading .observation .windows) 0, noWindow) ∷ [] in
+      let of-record = firstFault (soundFirst (reading .observation) none) in
+      let ended = cond (not (eqb (reading .refusal) noRefusal)) (reading .refusal) of-record in
       let passed = no-fault (ltb largestRefusal (reading .refusal)) unsoundRecord ended (omega arith) e .1 in
-      not-false (isSound (reading .observation)) (no-fault unsound unsoundRecord none (omega arith) (no-earlier (reading .refusal) sound passed .1) .0)
+      soundFirst-none (reading .observation) none (no-earlier (reading .refusal) of-record passed .1) .0
 
   pub outputOf-refused : (refusal : ℕ) → finishRefusal reading ≡ refusal → (refusal ≡ noRefusal → ⊥)
       → outputOf reading ≡ refusalLine refusal

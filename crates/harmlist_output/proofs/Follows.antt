@@ -10,7 +10,7 @@ use Rattle.refusals.specs.Numbers.{noRefusal, notAColumn, shortWindow, noWindow
 use Rattle.listing.specs.Listing.{listingText}
 use Rattle.listing.specs.RefusalLine.{refusalLine}
 use Rattle.columns.specs.Calls.{columnWidth}
-use Rattle.spectrum.specs.Line.{windowLength}
+use Rattle.windows.specs.Window.{windowLength}
 use Rattle.recordings.specs.declared.Reading.{Reading}
 use Rattle.recordings.specs.TextLines.{textLineBytes, textLineCount}
 use Rattle.recordings.specs.InputRefusal.{isNone, textLineRefusal, firstOf, refusalBefore, endRefusal}

@@ -6,7 +6,7 @@ use native.Mathlib.Omega.{arith}
 use borrow.Author.Tests.{ne-eqb}
 use Rattle.refusals.specs.Numbers.{noRefusal, shortWindow, noWindow}
 use Rattle.listing.specs.RefusalLine.{refusalLine}
-use Rattle.spectrum.specs.Line.{windowLength}
+use Rattle.windows.specs.Window.{windowLength}
 use Rattle.recordings.specs.TextLines.{textLineCount}
 use Rattle.recordings.specs.InputRefusal.{refusalBefore, endRefusal, inputRefusal}
 use Rattle.harmlist_output.specs.Output.{listingFor, harmlistOutput}

@@ -8,7 +8,7 @@ use Rattle.refusals.specs.Numbers.{noRefusal, unsoundRecord, noWindow, largestR
 use Rattle.refusals.specs.Answers.{firstFault, unlessRefused}
 use Rattle.listing.specs.Listing.{listingText, listingRefusal}
 use Rattle.listing.specs.RefusalLine.{refusalLine}
-use Rattle.observation.specs.Soundness.{isSound}
+use Rattle.observation.specs.Soundness.{soundFirst}
 use Rattle.recordings.specs.declared.Reading.{Reading}
 
 -- The refusal at the end: that of the reading, or 10 where no window came. A reading that no call gave, whose refusal is none of document 01's or whose record is not sound, is 7.
@@ -16,9 +16,7 @@ abbrev pub finishChecks : Reading → List (Bool × ℕ)
 finishChecks reading =
     (ltb largestRefusal (reading .refusal), unsoundRecord) ∷
     (not (eqb (reading .refusal) noRefusal), reading .refusal) ∷
-    (not (isSound (reading .observation)), unsoundRecord) ∷
-    (eqb (reading .observation .windows) 0, noWindow) ∷
-    []
+    soundFirst (reading .observation) ((eqb (reading .observation .windows) 0, noWindow) ∷ [])
 
 unfoldable pub finishRefusal : Reading → ℕ
 finishRefusal reading = firstFault (finishChecks reading)

@@ -5,7 +5,7 @@ use listing::LISTING_ROOM;
 use listing::REFUSAL_LINE_LENGTH;
 use listing::fill_listing;
 use listing::fill_refusal_line;
-use observation::is_sound;
+use observation::sound_fault_or;
 use recordings::Reading;
 use refusals::Answer;
 use refusals::LARGEST_REFUSAL;
@@ -32,26 +32,19 @@ fn finish_refusal(reading: Reading) -> u32
     let refusal = reading.refusal;
     let observation = reading.observation;
     let windows = observation.windows;
-    let sound = is_sound(
+    let of_record = sound_fault_or(
         observation.setup,
         windows,
         &observation.smoothed,
         &observation.sum,
         &observation.peak,
         &observation.latest,
+        fault_or(windows == 0, NO_WINDOW, NO_REFUSAL),
     );
     fault_or(
         LARGEST_REFUSAL < refusal,
         UNSOUND_RECORD,
-        fault_or(
-            refusal != NO_REFUSAL,
-            refusal,
-            fault_or(
-                !sound,
-                UNSOUND_RECORD,
-                fault_or(windows == 0, NO_WINDOW, NO_REFUSAL),
-            ),
-        ),
+        fault_or(refusal != NO_REFUSAL, refusal, of_record),
     )
 }
 

@@ -7,8 +7,8 @@ use lib.Dec.{eqb, eqb→eq}
 use Rattle.algebra.specs.Fraction.{Fraction, whole, times, divide}
 use Rattle.algebra.specs.LowestTerms.{least, leastDenominator, lowestTerms}
 use Rattle.algebra.proofs.Computed.{both-pass}
-use Rattle.fractions.specs.declared.Fraction.{Fraction as Held}
-use Rattle.fractions.specs.Parts.{held, parts}
+use Rattle.fractions.specs.declared.Ratio.{Ratio}
+use Rattle.fractions.specs.Parts.{ratio, parts}
 use Rattle.limits.specs.declared.Class.the-variants.{A, B}
 use Rattle.limits.specs.Limit.{hasLimit, ownFigures, overOrder, figureIn, classALimit, limitOf, listedLimit}
 use Rattle.limits.proofs.Limits.{limited-passes}
@@ -27,8 +27,8 @@ common-range p = go (eqb (p .num % 2) 0) (eqb (p .den % 3) 0)
     go false false = (omega arith, omega arith)
 
 -- three halves of it, with that cancelled
-abbrev pub cancelled : Fraction → Held
-cancelled p = held (3 * p .num / common p) (2 * p .den / common p)
+abbrev pub cancelled : Fraction → Ratio
+cancelled p = ratio (3 * p .num / common p) (2 * p .den / common p)
 
 -- class B's listed limit is class A's, so cancelled
 pub listedLimit-class-B : (order : ℕ) → hasLimit order ≡ true → cancelled (listedLimit A order) ≡ parts (listedLimit B order)
@@ -39,4 +39,4 @@ listedLimit-class-B order has-limit =
     let passed = both-pass (isNum order) (isDen order) (limited-passes order has-limit (λ h. isNum h && isDen h) tt) in
     let num-is = eqb→eq _ _ (passed .0) in
     let den-is = eqb→eq _ _ (passed .1) in
-    λ i. held (num-is i) (den-is i)
+    λ i. ratio (num-is i) (den-is i)

@@ -28,7 +28,3 @@ classWith-letter letter = go (eqb letter (letterOf A)) (eqb letter (letterOf B))
     go a true e f taken = sym (eqb-true _ _ f)
     go true false e f taken = sym (eqb-true _ _ e)
     go false false e f taken = absurd (true≢false (sym taken))
-
--- so a class that has a letter is the one that it names
-pub class-named : (class : Class) (letter : ℕ) → letterOf class ≡ letter → classWith letter ≡ class
-class-named class letter named = rw (← named) (letterOf-class class .1)

@@ -1,6 +1,6 @@
 -- What callers use of the limits: which orders have one, what the call then answers, that it is the rule's, and how large its parts are.
 use mathlib.Core.Path.{_≡_, refl}
-use mathlib.Core.Bool.{Bool, true, _&&_}
+use mathlib.Core.Bool.{Bool, true, false, cond, _&&_}
 use Prim.Native.Nat.{ℕ, suc, _≤_}
 use native.Mathlib.Omega.{arith}
 use lib.Dec.{T, leb, leb→le}
@@ -70,6 +70,20 @@ module _ (order : ℕ) (has-limit : hasLimit order ≡ true) where
       let limit = listedLimit class order in
       let passed = both-pass (leb (limit .num) largestNumerator) (leb (limit .den) largestDenominator) (bounded class) in
       (leb→le (limit .num) largestNumerator (passed .0), leb→le (limit .den) largestDenominator (passed .1))
+
+-- so are those of the limit or 0, at every order
+pub limitOrZero-le :
+    (class : Class) (order : ℕ) →
+    (limitOrZero class order .num ≤ largestNumerator) × (limitOrZero class order .den ≤ largestDenominator)
+unfolding whole
+limitOrZero-le class order = by-test (hasLimit order) refl
+  where
+    by-test :
+        (limited : Bool) → hasLimit order ≡ limited →
+        let limit = cond limited (listedLimit class order) (whole 0) in
+        (limit .num ≤ largestNumerator) × (limit .den ≤ largestDenominator)
+    by-test true e = listedLimit-le order e class
+    by-test false e = (omega arith, omega arith)
 
 -- the listed limit is equal to the rule's, by cross products
 pub listedLimit-equal : (class : Class) (order : ℕ) → listedLimit class order ≈ᶠ limitOf class order

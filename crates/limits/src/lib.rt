@@ -6,7 +6,7 @@ mod limit;
 mod limit_table;
 
 pub use call::order_limit;
-use fractions::Fraction;
+use fractions::Ratio;
 pub use letters::class_with;
 pub use letters::is_class;
 pub use limit::class_limit;
@@ -21,5 +21,5 @@ pub enum Class {
 // What a call for a limit answers: NO_REFUSAL with the limit in milliamperes, or a refusal's number with 0.
 pub struct LimitAnswer {
     pub refusal: u32,
-    pub limit: Fraction,
+    pub limit: Ratio,
 }

@@ -1,7 +1,7 @@
 // The limit of an order in a class.
 use crate::Class;
 use crate::limit_table::row_of;
-use fractions::Fraction;
+use fractions::Ratio;
 use rows::ORDER_COUNT;
 ghost use mathlib.Core.Bool.{true, cond};
 ghost use mathlib.Core.Path.{_≡_};
@@ -33,7 +33,7 @@ fn divisor_or_one(number: u64, divisor: u64) -> u64
 
 // The limit of an order in milliamperes, in lowest terms: class A's from the table, class B's as three halves of
 // it. The parts of a row have no common divisor, so that those of three halves can share only 2 and 3.
-fn table_limit(class: Class, order: u32) -> Fraction
+fn table_limit(class: Class, order: u32) -> Ratio
     requires { ⌜ hasLimit order ≡ true ⌝ }
     ensures { λ r. ⌜ r ≡ parts (listedLimit class order) ⌝ }
 {
@@ -41,13 +41,13 @@ fn table_limit(class: Class, order: u32) -> Fraction
     let numerator = row.1 as u64;
     let denominator = row.2 as u64;
     match class {
-        Class::A => Fraction {
+        Class::A => Ratio {
             numerator,
             denominator,
         },
         Class::B => {
             let common = divisor_or_one(numerator, 2) * divisor_or_one(denominator, 3);
-            Fraction {
+            Ratio {
                 numerator: 3 * numerator / common,
                 denominator: 2 * denominator / common,
             }
@@ -56,17 +56,17 @@ fn table_limit(class: Class, order: u32) -> Fraction
 }
 
 // What stands in place of a limit where there is none: 0.
-pub(crate) fn no_limit() -> Fraction
+pub(crate) fn no_limit() -> Ratio
     ensures { λ r. ⌜ r ≡ parts (whole 0) ⌝ }
 {
-    Fraction {
+    Ratio {
         numerator: 0,
         denominator: 1,
     }
 }
 
 // The limit of an order in a class in milliamperes, in lowest terms, or 0 for an order that has none.
-pub fn class_limit(class: Class, order: u32) -> Fraction
+pub fn class_limit(class: Class, order: u32) -> Ratio
     ensures { λ r. ⌜ r ≡ parts (limitOrZero class order) ⌝ }
 {
     if has_limit(order) {

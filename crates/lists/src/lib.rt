@@ -1,8 +1,9 @@
-// Lent lists of whole numbers: an element with its place, and a test over all.
+// Lent lists of whole numbers: an element with its place, a copy of any length, and a test over all.
 ghost use mathlib.Core.Path.{_≡_};
 ghost use lib.Dec.{ltb};
-ghost use lib.ListN.{getD};
+ghost use lib.ListN.{length, getD};
 ghost use Rattle.algebra.specs.Lists.{anyOf};
+ghost use Rattle.lists.specs.LentWords.{wordsFrom};
 
 // The number at a place of the list, 0 past its end.
 pub fn number_at(numbers: &[u32], place: usize) -> u32
@@ -12,6 +13,17 @@ pub fn number_at(numbers: &[u32], place: usize) -> u32
         numbers[place]
     } else {
         0
+    }
+}
+
+// Writes the numbers to another list, 0 past the last.
+pub fn put_numbers(numbers: &[u32], to: &mut [u32])
+    ensures { λ _. ⌜ now (to .exit) ≡ wordsFrom 0 (length (now (to .entry))) (now (numbers .entry)) ⌝ }
+{
+    let mut i = 0;
+    while i < to.len() {
+        to[i] = number_at(numbers, i);
+        i += 1;
     }
 }
 

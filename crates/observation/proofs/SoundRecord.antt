@@ -1,7 +1,7 @@
 -- What a sound record says of its numbers, what an accepted call says, and that a record stays sound: the empty record is, and a call and so a list of calls leaves a sound record sound.
 -- A record's lists may have any length here: past its end a list holds zeros.
 use mathlib.Core.Path.{_≡_, refl}
-use mathlib.Core.Bool.{Bool, true, false, not, cond}
+use mathlib.Core.Bool.{Bool, true, false, cond}
 use mathlib.Core.List.{List, [], _∷_}
 use Prim.Native.Nat.{ℕ, _+_, _*_, _<_, _≤_}
 use native.Mathlib.Nat.{max-le}
@@ -15,9 +15,9 @@ use Rattle.rows.specs.Setups.{isSetup}
 use Rattle.rows.specs.declared.Setup.{Setup}
 use Rattle.rows.proofs.Setups.{setup-parts, isSetup-known, sameSetup-eq, sameSetup-self}
 use Rattle.rows.specs.Orders.{orderCount}
-use Rattle.refusals.specs.Numbers.{noRefusal, unknownSystem, unknownEdition, unsoundRecord, otherSetup, recordFull}
+use Rattle.refusals.specs.Numbers.{noRefusal, unknownSystem, unknownEdition, otherSetup, recordFull}
 use Rattle.refusals.specs.Answers.{firstFault}
-use Rattle.refusals.proofs.Answers.{no-fault, no-faults, unlessRefused-accepted}
+use Rattle.refusals.proofs.Answers.{no-faults, unlessRefused-accepted}
 use Rattle.rows.specs.declared.Row.{Row}
 use Rattle.observation.specs.declared.Observation.{Observation}
 use Rattle.observation.specs.Book.{bookStep, smoothedNext}
@@ -28,6 +28,7 @@ use Rattle.observation.specs.Calls.{emptyRecord, freshRefusal, freshAnsw
 use Rattle.observation.specs.RecordAfter.{recordAfter}
 use Rattle.observation.specs.BookCalls.{accepts, acceptedCalls, AcceptedFit}
 use Rattle.observation.proofs.NoneAbove.{getD-le-of-none-above, none-above-tabulate}
+use Rattle.observation.proofs.SoundFirst.{soundFirst-none}
 use Rattle.observation.proofs.Smoothed.{smoothed-next-le}
 use Rattle.observation.proofs.Latest.{zeros-withLatest}
 
@@ -92,8 +93,8 @@ pub record AcceptedCall (o : Observation) (row : Row) : Type 0 where
 pub accepted-call : (o : Observation) (row : Row) → addRowRefusal o row ≡ noRefusal → AcceptedCall o row
 unfolding addRowRefusal
 accepted-call o row e =
-    let passed = no-fault (not (isSound o)) unsoundRecord _ (omega arith) e in
-    record { sound = not-false _ (passed .0); row-accepted = accepted-row (o .setup) (o .windows) row (passed .1) }
+    let passed = soundFirst-none o (rowChecks (o .setup) (o .windows) (row .setup)) e in
+    record { sound = passed .0; row-accepted = accepted-row (o .setup) (o .windows) row (passed .1) }
 
 pub with-row-sound :
     (o : Observation) (row : Row) → isSound o ≡ true → o .windows < mostWindows → ValuesFit row →

@@ -9,7 +9,7 @@ use Rattle.algebra.specs.Lists.{tabulate}
 use Rattle.rows.specs.Orders.{orderCount}
 use Rattle.rows.specs.Setups.{setupChecks, sameSetup, refusedSetup}
 use Rattle.rows.specs.declared.Setup.{Setup}
-use Rattle.refusals.specs.Numbers.{unsoundRecord, otherSetup, recordFull}
+use Rattle.refusals.specs.Numbers.{otherSetup, recordFull}
 use Rattle.refusals.specs.Answers.{firstFault, unlessRefused}
 use Rattle.rows.specs.declared.Row.{Row}
 use Rattle.observation.specs.declared.Observation.{Observation}
@@ -17,7 +17,7 @@ use Rattle.observation.specs.declared.RecordAnswer.{RecordAnswer}
 use Rattle.observation.specs.Book.{Book, bookStep}
 use Rattle.observation.specs.Smoothing.{reported}
 use Rattle.observation.specs.Latest.{valuesKept, withLatest}
-use Rattle.observation.specs.Soundness.{isSound, mostWindows}
+use Rattle.observation.specs.Soundness.{mostWindows, soundFirst}
 
 -- a record of a setup with zeros
 unfoldable pub emptyRecord : Setup → Observation
@@ -86,7 +86,7 @@ rowChecks own count setup =
 
 -- 7 record not sound comes before these
 abbrev pub addRowChecks : Observation → Row → List (Bool × ℕ)
-addRowChecks o row = (not (isSound o), unsoundRecord) ∷ rowChecks (o .setup) (o .windows) (row .setup)
+addRowChecks o row = soundFirst o (rowChecks (o .setup) (o .windows) (row .setup))
 
 unfoldable pub addRowRefusal : Observation → Row → ℕ
 addRowRefusal o row = firstFault (addRowChecks o row)

@@ -8,6 +8,7 @@ use Rattle.algebra.specs.Lists.{anyOf, allTrue}
 use Rattle.rows.specs.Orders.{orderCount}
 use Rattle.rows.specs.Rows.{largestValue}
 use Rattle.rows.specs.Setups.{isSetup}
+use Rattle.refusals.specs.Numbers.{unsoundRecord}
 use Rattle.observation.specs.declared.Observation.{Observation}
 
 -- at most 45,000 windows, 2.5 hours
@@ -40,3 +41,7 @@ soundTests o =
 
 unfoldable pub isSound : Observation → Bool
 isSound o = allTrue (soundTests o)
+
+-- the checks of a call on a record: "7 record not sound", then the others
+abbrev pub soundFirst : Observation → List (Bool × ℕ) → List (Bool × ℕ)
+soundFirst o checks = (not (isSound o), unsoundRecord) ∷ checks

@@ -6,11 +6,10 @@ use crate::book::OrderBook;
 use crate::book::book_step;
 use crate::latest_rows::keep_row;
 use crate::soundness::MOST_WINDOWS;
-use crate::soundness::is_sound;
+use crate::soundness::sound_fault_or;
 use refusals::NO_REFUSAL;
 use refusals::OTHER_SETUP;
 use refusals::RECORD_FULL;
-use refusals::UNSOUND_RECORD;
 use refusals::fault_or;
 use rows::ORDER_COUNT;
 use rows::Row;
@@ -19,9 +18,7 @@ use rows::refused_setup;
 use rows::same_setup;
 use rows::setup_fault_or;
 ghost use mathlib.Core.Path.{_≡_};
-ghost use mathlib.Core.Bool.{not};
-ghost use mathlib.Core.List.{_∷_};
-ghost use Rattle.refusals.specs.Numbers.{noRefusal, unsoundRecord};
+ghost use Rattle.refusals.specs.Numbers.{noRefusal};
 ghost use Rattle.refusals.specs.Answers.{firstFault};
 ghost use Rattle.observation.specs.Calls.{emptyRecord, freshAnswer, withRow, rowChecks, addRowRefusal, addRowAnswer};
 
@@ -56,16 +53,15 @@ pub fn fresh_record(setup: Setup) -> RecordAnswer
     }
 }
 
-// The checks of a row against a record that is sound or not, in order: 7 record not sound, 1 unknown
-// system, 19 unknown edition, 8 another setup than the record's, 9 record full.
-fn row_refusal(sound: bool, own: Setup, windows: u32, setup: Setup) -> u32
-    ensures { λ r. ⌜ r ≡ firstFault ((not sound, unsoundRecord) ∷ rowChecks own windows setup) ⌝ }
+// The checks of a row that come after the record's soundness, in order: 1 unknown system, 19 unknown edition,
+// 8 another setup than the record's, 9 record full.
+fn row_refusal(own: Setup, windows: u32, setup: Setup) -> u32
+    ensures { λ r. ⌜ r ≡ firstFault (rowChecks own windows setup) ⌝ }
 {
     let other = !same_setup(setup, own);
     let full = MOST_WINDOWS <= windows;
     let rest = fault_or(other, OTHER_SETUP, fault_or(full, RECORD_FULL, NO_REFUSAL));
-    let setup_and_rest = setup_fault_or(setup, rest);
-    fault_or(!sound, UNSOUND_RECORD, setup_and_rest)
+    setup_fault_or(setup, rest)
 }
 
 // The record with a row added: the book of each order takes its step, and the row is the latest.
@@ -113,15 +109,16 @@ fn with_row(observation: Observation, row: Row) -> Observation
 pub fn add_row(observation: Observation, row: Row) -> RecordAnswer
     ensures { λ r. ⌜ r ≡ addRowAnswer observation row ⌝ }
 {
-    let sound = is_sound(
+    let of_row = row_refusal(observation.setup, observation.windows, row.setup);
+    let refusal = sound_fault_or(
         observation.setup,
         observation.windows,
         &observation.smoothed,
         &observation.sum,
         &observation.peak,
         &observation.latest,
+        of_row,
     );
-    let refusal = row_refusal(sound, observation.setup, observation.windows, row.setup);
     if refusal != NO_REFUSAL {
         return RecordAnswer {
             refusal,

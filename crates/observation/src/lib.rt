@@ -15,7 +15,7 @@ pub use latest_rows::row_place;
 use rows::ORDER_COUNT;
 use rows::Setup;
 pub use soundness::MOST_WINDOWS;
-pub use soundness::is_sound;
+pub use soundness::sound_fault_or;
 
 // Document 01's observation record, with the latest rows of document 02's card 8. Any numbers may stand in it; which records are sound is said
 // in specs/Soundness.antt.

@@ -15,14 +15,16 @@ use Rattle.algebra.specs.Lists.{tabulate}
 use Rattle.refusals.specs.Numbers.{noRefusal, unknownSystem, unknownEdition, shortWindow, sampleOutOfRange, recordFull}
 use Rattle.refusals.specs.Answers.{firstFault, unlessRefused}
 use Rattle.refusals.proofs.Answers.{numbered, no-faults, unlessRefused-accepted, unlessRefused-refused, unlessRefused-same}
-use Rattle.refusals.proofs.Appended.{numbered-append, firstFault-append, unlessRefused-none}
+use Rattle.refusals.proofs.Appended.{numbered-append, firstFault-append, firstFault-append-none}
 use Rattle.rows.specs.Setups.{isSetup}
 use Rattle.rows.specs.declared.Setup.{Setup}
 use Rattle.rows.proofs.Setups.{isSetup-known}
 use Rattle.rows.specs.declared.Row.{Row}
-use Rattle.spectrum.specs.Line.{windowLength, windowAt, linesOf}
-use Rattle.spectrum.specs.Spectrum.{shortCheck, rangeCheck, spectrumRefusal}
-use Rattle.groups.specs.declared.Kind.{Kind}
+use Rattle.windows.specs.Window.{windowLength, windowAt}
+use Rattle.spectral_lines.specs.Line.{linesOf}
+use Rattle.windows.specs.Checks.{shortCheck, rangeCheck}
+use Rattle.spectrum.specs.Spectrum.{spectrumRefusal}
+use Rattle.spans.specs.declared.Kind.{Kind}
 use Rattle.observation.specs.declared.Observation.{Observation}
 use Rattle.observation.specs.declared.RecordAnswer.{RecordAnswer}
 use Rattle.observation.specs.Soundness.{isSound, mostWindows}
@@ -208,8 +210,10 @@ module _ (setup : Setup) (recording : List ℤ) (start : ℕ) where
       (n : ℕ) → observeRefusal setup recording start (suc n) ≡ noRefusal →
       (observeRefusal setup recording start n ≡ noRefusal)
       × (firstFault (addWindowChecks recording (windowStart start n) n) ≡ noRefusal)
+  unfolding observeRefusal observeChecks
   refused-neither n none =
-      unlessRefused-none (observeRefusal setup recording start n) _ (sym (observeRefusal-next setup recording start n) ∙ none)
+      firstFault-append-none (observeChecks setup recording start n) (addWindowChecks recording (windowStart start n) n)
+      (observeChecks-numbered setup recording start n) none
 
   observeRefusal-before :
       (k n : ℕ) → observeRefusal setup recording start (k + n) ≡ noRefusal → observeRefusal setup recording start n ≡ noRefusal

@@ -11,9 +11,10 @@ use Rattle.rows.specs.Setups.{isSetup}
 use Rattle.rows.specs.declared.Setup.{Setup}
 use Rattle.rows.specs.Rows.{refusedRow}
 use Rattle.rows.specs.declared.Row.{Row}
-use Rattle.spectrum.specs.Line.{windowAt}
-use Rattle.spectrum.specs.Spectrum.{shortCheck, rangeCheck, spectrumRefusal, spectrumExit}
-use Rattle.groups.specs.declared.Kind.{Kind}
+use Rattle.windows.specs.Window.{windowAt}
+use Rattle.windows.specs.Checks.{shortCheck, rangeCheck}
+use Rattle.spectrum.specs.Spectrum.{spectrumRefusal, spectrumExit}
+use Rattle.spans.specs.declared.Kind.{Kind}
 use Rattle.groups.proofs.GroupSum.{windowRow-setup, windowRow-accepted}
 use Rattle.observation.specs.declared.Observation.{Observation}
 use Rattle.observation.specs.declared.RecordAnswer.{RecordAnswer}

@@ -9,7 +9,7 @@ use Rattle.algebra.specs.Largest.{largest}
 use Rattle.algebra.specs.Lists.{tabulate, anyOf}
 use Rattle.algebra.specs.Rounding.{nearest}
 use Rattle.algebra.specs.Weighted.{sumOver}
-use Rattle.integers.specs.Root.{rootOf}
+use Rattle.square_root.specs.Root.{rootOf}
 use Rattle.refusals.specs.Answers.{firstFault}
 use Rattle.rows.specs.declared.Row.{Row}
 use Rattle.rows.specs.Orders.{isOrder}
@@ -18,12 +18,12 @@ use Rattle.rows.specs.Editions.{isEdition}
 use Rattle.rows.specs.Setups.{setupOf, isSetup, sameSetup}
 use Rattle.rows.specs.declared.Setup.{Setup}
 use Rattle.rows.specs.Rows.{firstValues}
-use Rattle.spectrum.specs.Line.{windowAt, linesOf}
-use Rattle.spectrum.specs.Spectrum.{outOfRange}
-use Rattle.spectrum.proofs.Pulse.{pulse, pulse-lines, silence, silence-lines}
-use Rattle.groups.specs.declared.Kind.{Kind}
-use Rattle.groups.specs.declared.Kind.the-variants.{HarmonicGroup, HarmonicSubgroup}
-use Rattle.groups.specs.Spans.{spanOf, groupedAs, weightsIn, weightedSum}
+use Rattle.windows.specs.Window.{windowAt, outOfRange}
+use Rattle.spectral_lines.specs.Line.{linesOf}
+use Rattle.spectral_lines.proofs.Pulse.{pulse, pulse-lines, silence, silence-lines}
+use Rattle.spans.specs.declared.Kind.{Kind}
+use Rattle.spans.specs.declared.Kind.the-variants.{HarmonicGroup, HarmonicSubgroup}
+use Rattle.spans.specs.Spans.{spanOf, groupedAs, weightsIn, weightedSum}
 use Rattle.groups.specs.Group.{groupRefusal, valueOver, groupValue, groupAnswer, groupValues, windowRow}
 use Rattle.observation.specs.declared.Observation.{Observation}
 use Rattle.observation.specs.Book.{smoothedNext, bookStep}
@@ -32,19 +32,14 @@ use Rattle.observation.specs.Latest.{withLatest}
 use Rattle.observation.specs.Soundness.{noneAbove, allZero, isSound}
 use Rattle.observation.specs.Calls.{emptyRecord, bookAt, nextBook, withRow, rowChecks, addRowRefusal, addRowAnswer}
 use Rattle.observation.specs.RecordAfter.{recordAfter}
+use Rattle.observation.proofs.WorkedRecords.{workedRecord, keeping}
 use Rattle.observe.specs.Observe.{windowRows, addWindowChecks, observeChecks, observeRefusal, observeAnswer}
 
 -- a record under edition 2 whose orders are alike, and whose first row alone is not zeros and has the peak
-abbrev alike : ℕ → ℕ → ℕ → ℕ → ℕ → Observation
+abbrev pub alike : ℕ → ℕ → ℕ → ℕ → ℕ → Observation
 alike system windows smoothed sum peak =
-    record {
-      setup = setupOf system 0;
-      windows = windows;
-      smoothed = replicate 40 smoothed;
-      sum = replicate 40 sum;
-      peak = replicate 40 peak;
-      latest = replicate 40 peak ++ replicate 560 0;
-    }
+    keeping (replicate 40 peak ++ replicate 560 0)
+    (workedRecord (setupOf system 0) windows (replicate 40 smoothed) (replicate 40 sum) (replicate 40 peak))
 
 -- ---- refusals
 
@@ -157,7 +152,7 @@ unfolding linesOf
 a1-row = row-of HarmonicGroup _ pulse _ _ (pulse-lines 0 512) (flat-values .3)
 
 -- the second window begins where the first ends
-abbrev pulseThenSilence : List ℤ
+abbrev pub pulseThenSilence : List ℤ
 pulseThenSilence = pulse ++ silence
 
 windows-of : (windowAt pulseThenSilence 0 ≡ pulse) × (windowAt pulseThenSilence 2048 ≡ silence)
@@ -178,15 +173,7 @@ rows-of-one = rw (windows-of .0, subgroup-row, a1-row) (refl, refl)
 
 -- under A1, after one row
 abbrev recordUnderA1 : Observation
-recordUnderA1 =
-    record {
-      setup = setupOf 12 1;
-      windows = 1;
-      smoothed = underA1;
-      sum = underA1;
-      peak = underA1;
-      latest = underA1 ++ replicate 560 0;
-    }
+recordUnderA1 = keeping (underA1 ++ replicate 560 0) (workedRecord (setupOf 12 1) 1 underA1 underA1 underA1)
 
 records-of :
     (recordAfter (emptyRecord (setupOf 10 0)) (rowOf 10 0 (replicate 40 8944) ∷ rowOf 10 0 (replicate 40 0) ∷ []) ≡ alike 10 2 7828 16772 8944)
@@ -204,7 +191,7 @@ passed = (refl, refl, refl)
 
 -- document 01's pulse, 8944 in its harmonic groups, then 7828 as the silent window is smoothed in; 4898 in the subgroups of one window;
 -- and under A1 2828 in the harmonic group of order 1
-pulse-observed :
+pub pulse-observed :
     (observeAnswer HarmonicGroup (setupOf 10 0) pulseThenSilence 0 2
     ≡ record { refusal = 0; observation = alike 10 2 7828 16772 8944 })
     × (observeAnswer HarmonicSubgroup (setupOf 12 0) pulseThenSilence 0 1

@@ -7,9 +7,9 @@ use Rattle.refusals.specs.Answers.{unlessRefused}
 use Rattle.rows.specs.Rows.{refusedRow}
 use Rattle.rows.specs.declared.RowAnswer.{RowAnswer}
 use Rattle.rows.specs.declared.Setup.{Setup}
-use Rattle.spectrum.specs.Line.{lineCount}
+use Rattle.spectral_lines.specs.Line.{lineCount}
 use Rattle.spectrum.specs.Spectrum.{spectrumRefusal, spectrumExit}
-use Rattle.groups.specs.declared.Kind.{Kind}
+use Rattle.spans.specs.declared.Kind.{Kind}
 use Rattle.observation.specs.declared.Observation.{Observation}
 use Rattle.observation.specs.declared.RecordAnswer.{RecordAnswer}
 use Rattle.observation.specs.Calls.{freshAnswer, addRowAnswer}

@@ -11,9 +11,9 @@ use Rattle.refusals.specs.Answers.{firstFault, unlessRefused}
 use Rattle.rows.specs.Setups.{setupChecks}
 use Rattle.rows.specs.declared.Setup.{Setup}
 use Rattle.rows.specs.declared.Row.{Row}
-use Rattle.spectrum.specs.Line.{windowLength, windowAt}
-use Rattle.spectrum.specs.Spectrum.{shortCheck, rangeCheck}
-use Rattle.groups.specs.declared.Kind.{Kind}
+use Rattle.windows.specs.Window.{windowLength, windowAt}
+use Rattle.windows.specs.Checks.{shortCheck, rangeCheck}
+use Rattle.spans.specs.declared.Kind.{Kind}
 use Rattle.observation.specs.declared.RecordAnswer.{RecordAnswer}
 use Rattle.observation.specs.Soundness.{mostWindows}
 use Rattle.observation.specs.Calls.{emptyRecord, refusedRecord}

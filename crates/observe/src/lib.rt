@@ -1,6 +1,5 @@
 // From the samples of windows back to back to the record after them, by the calls that a user would
 // make in turn. The first call that is refused decides.
-use groups::Kind;
 use groups::group_row;
 use observation::RecordAnswer;
 use observation::add_row;
@@ -10,9 +9,10 @@ use rows::RowAnswer;
 use rows::Setup;
 use rows::refused_row;
 use rows::refused_setup;
-use spectrum::LINE_COUNT;
-use spectrum::WINDOW_LENGTH;
+use spans::Kind;
+use spectral_lines::LINE_COUNT;
 use spectrum::spectrum;
+use windows::WINDOW_LENGTH;
 ghost use mathlib.Core.Path.{_≡_};
 ghost use Rattle.observation.specs.Calls.{refusedRecord};
 ghost use Rattle.observe.specs.Observe.{observeAnswer};

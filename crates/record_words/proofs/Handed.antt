@@ -6,7 +6,7 @@ use lib.ListN.{length}
 use Rattle.refusals.specs.Answers.{unlessRefused}
 use Rattle.observation.specs.declared.Observation.{Observation}
 use Rattle.observation.specs.declared.RecordAnswer.{RecordAnswer}
-use Rattle.exported_answers.proofs.Handed.{received-eq}
+use Rattle.refusals.proofs.Answers.{received-eq}
 use Rattle.record_words.specs.Words.{recordWords, wordsOf, wordsWith}
 use Rattle.record_words.proofs.Words.{wordsWith-whole}
 

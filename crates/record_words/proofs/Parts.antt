@@ -7,7 +7,7 @@ use lib.ListN.{length, take, drop, length-append}
 use lib.Seq.{take-at, drop-at, take-add, drop-drop, length-take-le}
 use Rattle.algebra.specs.Lists.{joined}
 use Rattle.algebra.proofs.Lists.{tabulate-part}
-use Rattle.exported_answers.specs.LentWords.{wordsFrom}
+use Rattle.lists.specs.LentWords.{wordsFrom}
 use Rattle.record_words.specs.Parts.{partsFrom, total}
 
 pub joined-length : (parts : List (List ℕ)) → length (joined parts) ≡ total (map length parts)

@@ -17,8 +17,8 @@ use Rattle.observation.specs.declared.Observation.{Observation}
 use Rattle.observation.specs.Latest.{valuesKept}
 use Rattle.observation.specs.Soundness.{isSound}
 use Rattle.observation.proofs.SoundRecord.{sound-parts}
-use Rattle.exported_answers.specs.LentWords.{wordsFrom}
-use Rattle.exported_answers.proofs.LentWords.{wordsFrom-length}
+use Rattle.lists.specs.LentWords.{wordsFrom}
+use Rattle.lists.proofs.LentWords.{wordsFrom-length}
 use Rattle.record_words.specs.Parts.{partsFrom, total}
 use Rattle.record_words.specs.Halves.{packed}
 use Rattle.record_words.specs.Words.{latestWords, recordParts, recordWords, smoothedPlace, latestPlace, partsOf, ofParts, wordsOf, recordOf, recordRead, Whole, wordsWith}

@@ -1,7 +1,7 @@
 -- Words that hold parts one after the other.
 use mathlib.Core.List.{List, [], _∷_}
 use Prim.Native.Nat.{ℕ, _+_}
-use Rattle.exported_answers.specs.LentWords.{wordsFrom}
+use Rattle.lists.specs.LentWords.{wordsFrom}
 
 -- the parts of some words from a place on, by their counts of words: each begins where the part before it ends
 unfoldable pub partsFrom : ℕ → List ℕ → List ℕ → List (List ℕ)

@@ -18,7 +18,7 @@ ghost use Prim.Native.Nat.{_<_, min};
 ghost use lib.ListN.{length, getD};
 ghost use Rattle.rows.specs.Rows.{largestValue};
 ghost use Rattle.observation.specs.Latest.{valuesKept};
-ghost use Rattle.exported_answers.specs.LentWords.{wordsFrom};
+ghost use Rattle.lists.specs.LentWords.{wordsFrom};
 ghost use Rattle.record_words.specs.Halves.{unpacked};
 ghost use Rattle.record_words.specs.Words.{latestWords, recordWords, recordRead};
 

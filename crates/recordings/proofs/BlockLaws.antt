@@ -9,7 +9,7 @@ use lib.ListN.{length}
 use lib.Seq.{length-take-le, take-all}
 use Rattle.refusals.specs.Numbers.{noRefusal, shortWindow}
 use Rattle.columns.specs.Calls.{columnWidth}
-use Rattle.spectrum.specs.Line.{windowLength}
+use Rattle.windows.specs.Window.{windowLength}
 use Rattle.refusals.proofs.Answers.{no-fault}
 use Rattle.recordings.specs.declared.Reading.{Reading}
 use Rattle.recordings.specs.TextLines.{textLineBytes, textLineCount}

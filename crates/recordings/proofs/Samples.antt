@@ -11,8 +11,7 @@ use Rattle.algebra.specs.Lists.{tabulate, anyOf}
 use Rattle.algebra.proofs.Lists.{length-tabulate, getD-tabulate, anyOf-false}
 use Rattle.refusals.specs.Numbers.{noRefusal, sampleOutOfRange}
 use Rattle.columns.specs.Calls.{readingOf}
-use Rattle.spectrum.specs.Line.{windowLength}
-use Rattle.spectrum.specs.Spectrum.{largestSample, outOfRange}
+use Rattle.windows.specs.Window.{windowLength, largestSample, outOfRange}
 use Rattle.refusals.proofs.Answers.{no-faults}
 use Rattle.recordings.specs.TextLines.{textLineAt, textLineNumber, numberOr0, numberAt}
 use Rattle.recordings.specs.InputRefusal.{isNone}

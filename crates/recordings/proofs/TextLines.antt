@@ -11,8 +11,7 @@ use lib.ListN.{length, drop, length-drop}
 use lib.Seq.{drop-append-le, take-append-le, drop-append-add}
 use Rattle.algebra.specs.Lists.{tabulate}
 use Rattle.refusals.specs.Numbers.{noRefusal, notAColumn, sampleOutOfRange, recordFull}
-use Rattle.spectrum.specs.Line.{windowLength}
-use Rattle.spectrum.specs.Spectrum.{outOfRange}
+use Rattle.windows.specs.Window.{windowLength, outOfRange}
 use Rattle.observation.specs.Soundness.{mostWindows}
 use Rattle.observation.specs.Calls.{freshAnswer}
 use Rattle.observation.specs.RecordAfter.{recordAfter}

@@ -9,9 +9,9 @@ use borrow.Author.Tests.{eq-eqb, ne-eqb, le-leb, lt-leb}
 use lib.Dec.{eqb, leb}
 use lib.ListN.{length, length-append}
 use Rattle.refusals.specs.Numbers.{noRefusal, recordFull}
-use Rattle.spectrum.specs.Line.{windowLength}
-use Rattle.groups.specs.declared.Kind.{Kind}
-use Rattle.groups.specs.declared.Kind.the-variants.{HarmonicGroup, HarmonicSubgroup}
+use Rattle.windows.specs.Window.{windowLength}
+use Rattle.spans.specs.declared.Kind.{Kind}
+use Rattle.spans.specs.declared.Kind.the-variants.{HarmonicGroup, HarmonicSubgroup}
 use Rattle.groups.proofs.GroupSum.{windowRow-fits, windowRow-setup}
 use Rattle.rows.specs.declared.Row.{Row}
 use Rattle.observation.specs.declared.Observation.{Observation}

@@ -8,8 +8,9 @@ use lib.IntN.{ℤ}
 use lib.ListN.{length}
 use lib.Seq.{take-all}
 use Rattle.algebra.specs.Lists.{anyOf}
-use Rattle.spectrum.specs.Line.{windowLength, lineCount, windowAt, linesOf}
-use Rattle.spectrum.specs.Spectrum.{outOfRange, spectrumRefusal, spectrumExit}
+use Rattle.windows.specs.Window.{windowLength, windowAt, outOfRange}
+use Rattle.spectral_lines.specs.Line.{lineCount, linesOf}
+use Rattle.spectrum.specs.Spectrum.{spectrumRefusal, spectrumExit}
 
 pub spectrumExit-window : (window : List ℤ) (buffer : List ℕ) → length window ≡ windowLength → length buffer ≡ lineCount
     → anyOf outOfRange window ≡ false → spectrumExit window 0 buffer ≡ linesOf window

@@ -9,7 +9,7 @@ use borrow.Author.Tests.{ne-eqb}
 use lib.Dec.{eqb}
 use lib.ListN.{length}
 use Rattle.refusals.specs.Numbers.{noRefusal, notAColumn, largestRefusal}
-use Rattle.spectrum.specs.Line.{windowLength}
+use Rattle.windows.specs.Window.{windowLength}
 use Rattle.observation.specs.Soundness.{mostWindows}
 use Rattle.recordings.specs.TextLines.{textLineBytes, textLineAt, textLineNumber}
 use Rattle.recordings.specs.InputRefusal.{isNone, numberChecks, numberRefusal, textLineRefusal, firstOf, refusalBefore}

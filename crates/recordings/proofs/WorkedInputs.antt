@@ -11,7 +11,7 @@ use lib.IntN.{ℤ, pos, negsuc}
 use Rattle.algebra.specs.Computed.{allPass}
 use Rattle.columns.specs.Text.{newline, bytesOf}
 use Rattle.columns.specs.Column.{areDigits, isWhole, placeValue, wholeNumber, negativeNumber, signedNumber, afterBlanks, columnNumber}
-use Rattle.spectrum.specs.Spectrum.{outOfRange}
+use Rattle.windows.specs.Window.{outOfRange}
 use Rattle.rows.specs.Systems.{isSystem}
 use Rattle.rows.specs.Setups.{setupOf}
 use Rattle.recordings.specs.TextLines.{textLineCount, textLineAt, textLineNumber, numberOr0, numberAt}

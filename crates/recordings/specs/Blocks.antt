@@ -9,9 +9,8 @@ use lib.ListN.{length, take, replicate}
 use Rattle.algebra.specs.Lists.{tabulate}
 use Rattle.refusals.specs.Numbers.{noRefusal, shortWindow, sampleOutOfRange, notAColumn}
 use Rattle.refusals.specs.Answers.{firstFault, unlessRefused}
-use Rattle.spectrum.specs.Line.{windowLength}
-use Rattle.spectrum.specs.Spectrum.{outOfRange}
-use Rattle.groups.specs.declared.Kind.the-variants.{HarmonicGroup, HarmonicSubgroup}
+use Rattle.windows.specs.Window.{windowLength, outOfRange}
+use Rattle.spans.specs.declared.Kind.the-variants.{HarmonicGroup, HarmonicSubgroup}
 use Rattle.rows.specs.Orders.{orderCount}
 use Rattle.observation.specs.Calls.{emptyRecord, refusedRecord, addRowAnswer}
 use Rattle.recordings.specs.declared.Reading.{Reading}

@@ -7,8 +7,7 @@ use lib.Dec.{eqb}
 use lib.IntN.{ℤ, pos, negsuc}
 use Rattle.refusals.specs.Numbers.{noRefusal, notAColumn, unknownSystem, sampleOutOfRange, recordFull, noWindow, shortWindow}
 use Rattle.refusals.specs.Answers.{firstFault}
-use Rattle.spectrum.specs.Line.{windowLength}
-use Rattle.spectrum.specs.Spectrum.{outOfRange}
+use Rattle.windows.specs.Window.{windowLength, outOfRange}
 use Rattle.rows.specs.Systems.{isSystem}
 use Rattle.observation.specs.Soundness.{mostWindows}
 use Rattle.recordings.specs.TextLines.{textLineCount, textLineAt, textLineNumber, numberOr0}

@@ -10,7 +10,7 @@ pub use blocks::take_block;
 use columns::COLUMN_WIDTH;
 use observation::Observation;
 use rows::ORDER_COUNT;
-use spectrum::WINDOW_LENGTH;
+use windows::WINDOW_LENGTH;
 
 // The bytes of a line: a column of 8 and a newline.
 pub const LINE_BYTES: usize = COLUMN_WIDTH + 1;

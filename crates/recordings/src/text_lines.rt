@@ -7,7 +7,7 @@ use columns::read_column;
 use refusals::NO_REFUSAL;
 use refusals::NOT_A_COLUMN;
 use refusals::SAMPLE_OUT_OF_RANGE;
-use spectrum::out_of_range;
+use windows::out_of_range;
 ghost use mathlib.Core.Path.{_≡_};
 ghost use Prim.Native.Nat.{_+_, _*_, _≤_, _<_};
 ghost use lib.ListN.{length};

@@ -93,6 +93,16 @@ unlessRefused-related R refusal other a b unchanged same worked kept = rw (← s
     by-test true e = worked (eqb-true refusal noRefusal e)
     by-test false e = kept
 
+-- what the library puts beside a refusal never reaches the caller
+pub received-eq :
+    {A B : Type 0} (f : A → B) (refusal : ℕ) (accepted other : A) (before : B) →
+    unlessRefused refusal (f (unlessRefused refusal accepted other)) before ≡ unlessRefused refusal (f accepted) before
+received-eq {A} {B} f refusal accepted other before = by-test (eqb refusal noRefusal)
+  where
+    by-test : (none : Bool) → cond none (f (cond none accepted other)) before ≡ cond none (f accepted) before
+    by-test true = refl
+    by-test false = refl
+
 -- two checks with the numbers 1 and 2
 abbrev checks : Bool → Bool → List (Bool × ℕ)
 checks first second = (first, 1) ∷ (second, 2) ∷ []

@@ -1,5 +1,5 @@
 -- A row of checks after another: the first row decides, and the second where the first finds no fault.
-use mathlib.Core.Path.{_≡_, refl, sym}
+use mathlib.Core.Path.{_≡_, refl, sym, _∙_}
 use mathlib.Core.Bool.{Bool, true, false, true≢false, cond}
 use mathlib.Core.List.{List, [], _∷_, _++_}
 use Prim.Native.Nat.{ℕ}
@@ -8,7 +8,7 @@ use borrow.Author.Tests.{ltb-true, ne-eqb, eqb-true, eqb-false}
 use lib.Dec.{eqb, ltb}
 use Rattle.refusals.specs.Numbers.{noRefusal}
 use Rattle.refusals.specs.Answers.{firstFault, unlessRefused}
-use Rattle.refusals.proofs.Answers.{numbered}
+use Rattle.refusals.proofs.Answers.{numbered, faultWith, no-faults}
 
 -- the number of the first check, and those of the checks after it, are above 0
 numbered-parts : (above : Bool) (rest : Bool) → cond above rest false ≡ true → (above ≡ true) × (rest ≡ true)
@@ -37,8 +37,8 @@ firstFault-append ((fault, number) ∷ a) b e =
     by-fault true above later = rw (ne-eqb number noRefusal (λ z. omega (arith, ltb-true 0 number above)))
     by-fault false above later = later
 
--- neither finds a fault where the two in turn find none
-pub unlessRefused-none :
+-- neither of two answers in turn is a refusal where the first that is one is none
+unlessRefused-none :
     (first second : ℕ) → unlessRefused first second first ≡ noRefusal → (first ≡ noRefusal) × (second ≡ noRefusal)
 unlessRefused-none first second = by-test (eqb first noRefusal) refl
   where
@@ -47,3 +47,30 @@ unlessRefused-none first second = by-test (eqb first noRefusal) refl
         (first ≡ noRefusal) × (second ≡ noRefusal)
     by-test true e none = (eqb-true first noRefusal e, none)
     by-test false e none = absurd (eqb-false first noRefusal e none)
+
+-- where the two rows in turn find no fault, neither does
+pub firstFault-append-none :
+    (a b : List (Bool × ℕ)) → numbered a ≡ true → firstFault (a ++ b) ≡ noRefusal →
+    (firstFault a ≡ noRefusal) × (firstFault b ≡ noRefusal)
+firstFault-append-none a b e none =
+    unlessRefused-none (firstFault a) (firstFault b) (sym (firstFault-append a b e) ∙ none)
+
+-- ---- one number twice: the checks 2 and 3, and then 2 and 3 of another thing
+
+abbrev both : Bool → Bool → List (Bool × ℕ)
+both second third = (second, 2) ∷ (third, 3) ∷ []
+
+-- by its number a check is the first of that number alone: the fault of the other 2 is not seen
+number-found-once :
+    (firstFault (both false false ++ both true false) ≡ 2) × (faultWith 2 (both false false ++ both true false) ≡ false)
+number-found-once = (refl, refl)
+
+-- all four find nothing where nothing is refused
+four-passed :
+    (a b c d : Bool) → firstFault (both a b ++ both c d) ≡ noRefusal →
+    (a ≡ false) × (b ≡ false) × (c ≡ false) × (d ≡ false)
+four-passed a b c d none =
+    let rows = firstFault-append-none (both a b) (both c d) refl none in
+    let first = no-faults (both a b) refl (rows .0) in
+    let second = no-faults (both c d) refl (rows .1) in
+    (first 2, first 3, second 2, second 3)

@@ -1,6 +1,6 @@
 // Values that a caller lends as words, as the array of the 40 orders.
 use crate::ORDER_COUNT;
-use lists::number_at;
+use lists::put_numbers;
 ghost use mathlib.Core.Path.{_≡_};
 ghost use Rattle.rows.specs.Rows.{firstValues};
 
@@ -9,10 +9,6 @@ pub fn first_values(words: &[u32]) -> [u32; ORDER_COUNT]
     ensures { λ r. ⌜ r ≡ firstValues (now (words .entry)) ⌝ }
 {
     let mut values = [0; ORDER_COUNT];
-    let mut i = 0;
-    while i < ORDER_COUNT {
-        values[i] = number_at(words, i);
-        i += 1;
-    }
+    put_numbers(words, &mut values);
     values
 }

@@ -567,12 +567,9 @@ pub fn turn_index(index: usize) -> usize
 pub fn wave_at(quarter: &[u32; QUARTER_TURN + 1], index: usize) -> i64
     ensures { λ r. ⌜ r ≡ overTurn (heightIn (now (quarter .entry))) index ⌝ }
 {
-    let height = half_wave(quarter, index % HALF_TURN) as i64;
-    if turn_index(index) < HALF_TURN {
-        height
-    } else {
-        -height
-    }
+    let at = turn_index(index);
+    let height = half_wave(quarter, at % HALF_TURN) as i64;
+    if at < HALF_TURN { height } else { -height }
 }
 
 // Writes the wave at 0, 1, 2 .. to the end of the lent buffer.

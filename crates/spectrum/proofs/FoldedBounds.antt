@@ -15,10 +15,11 @@ use Rattle.algebra.specs.Sums.{sumTo}
 use Rattle.algebra.proofs.Integer.{natAbs-*ℤ, natAbs-+ℤ-le, natAbs-negℤ}
 use Rattle.algebra.proofs.SumTo.{sumTo-natAbs-le}
 use Rattle.sine.specs.Wave.{fullScale}
-use Rattle.spectrum.specs.Spectrum.{largestSample, outOfRange}
-use Rattle.spectrum.specs.Folding.{heldBy, largestFolded, Bounded, folded, paired, halved, halvedFrom, foldedWindow}
-use Rattle.spectrum.proofs.Bounds.{sample-le}
-use Rattle.spectrum.proofs.FoldedPlaces.{folded-after}
+use Rattle.windows.specs.Window.{largestSample, outOfRange}
+use Rattle.spectral_lines.specs.Folding.{heldBy, folded, paired}
+use Rattle.spectrum.specs.Halving.{largestFolded, Bounded, halved, halvedFrom, foldedWindow}
+use Rattle.windows.proofs.Samples.{sample-le}
+use Rattle.spectral_lines.proofs.FoldedPlaces.{folded-after}
 use Rattle.spectrum.proofs.HalvedSums.{at-most-512, low-places, halvedFrom-keeps}
 
 cond-bounded : (test : Bool) (x y : ℤ) (bound : ℕ) → natAbs x ≤ bound → natAbs y ≤ bound → natAbs (cond test x y) ≤ bound

@@ -21,10 +21,12 @@ use Rattle.sine.specs.Turn.{turn, halfTurn, quarterTurn}
 use Rattle.sine.specs.Wave.{tableSine, tableCosine}
 use Rattle.sine.proofs.Symmetry.{tableSine-start}
 use Rattle.sine.proofs.Wave.{tableCosine-le}
-use Rattle.spectrum.specs.Line.{windowLength, lineSum, sumScale, roundedSum, lineOf}
-use Rattle.spectrum.specs.Folding.{heldBy, largestFolded, foldedWindow, placeSum, partSum, cosineOf, sineOf, EndsAt, sineAhead}
+use Rattle.windows.specs.Window.{windowLength}
+use Rattle.spectral_lines.specs.Line.{lineSum, sumScale, roundedSum, lineOf}
+use Rattle.spectral_lines.specs.Folding.{heldBy, placeSum, cosineOf, sineOf}
+use Rattle.spectrum.specs.Halving.{largestFolded, foldedWindow, partSum, EndsAt, sineAhead}
 use Rattle.spectrum.specs.Prepared.{Prepared, SumFits}
-use Rattle.spectrum.proofs.LineWaves.{sine-is-cosine, sine-is-opposite}
+use Rattle.spectrum.proofs.SineAhead.{sine-is-cosine, sine-is-opposite}
 use Rattle.spectrum.proofs.HalvedSums.{at-most-512, folded-cosine, folded-sine, folded-0}
 use Rattle.spectrum.proofs.FoldedBounds.{foldedWindow-left, sumFits-le}
 

@@ -10,11 +10,12 @@ use lib.Pow.{pow-pos, pow-mono}
 use Rattle.sine.specs.Turn.{turn, halfTurn, quarterTurn}
 use Rattle.sine.specs.Wave.{tableSine, tableCosine}
 use Rattle.sine.proofs.Symmetry.{tableSine-start, tableCosine-quarter}
-use Rattle.spectrum.specs.Line.{lineSum}
-use Rattle.spectrum.specs.Folding.{heldBy, folded, paired, halved, halvedFrom, foldedWindow, placeSum, cosineOf, sineOf}
-use Rattle.spectrum.proofs.FoldedPlaces.{folded-before, folded-after, placeSum-same, placeSum-rest, fold-same, fold-opposite}
-use Rattle.spectrum.proofs.LineWaves.{angles, cosine-same, cosine-opposite, sine-same, sine-opposite}
-use Rattle.spectrum.proofs.PairedSums.{lineSum-paired-cosine, lineSum-paired-sine}
+use Rattle.spectral_lines.specs.Line.{lineSum}
+use Rattle.spectral_lines.specs.Folding.{heldBy, folded, paired, placeSum, cosineOf, sineOf}
+use Rattle.spectrum.specs.Halving.{halved, halvedFrom, foldedWindow}
+use Rattle.spectral_lines.proofs.FoldedPlaces.{folded-before, folded-after, placeSum-same, placeSum-rest, fold-same, fold-opposite}
+use Rattle.spectral_lines.proofs.LineWaves.{angles, cosine-same, cosine-opposite, sine-same, sine-opposite}
+use Rattle.spectral_lines.proofs.PairedSums.{lineSum-paired-cosine, lineSum-paired-sine}
 
 -- ---- one halving
 

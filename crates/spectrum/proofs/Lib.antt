@@ -1,14 +1,8 @@
--- The theorems of the spectrum.
-pub mod Bounds
-pub mod FoldedPlaces
-pub mod LineWaves
-pub mod PairedSums
-pub mod QuarterSums
+-- The theorems of the spectrum: an accepted call, a folded window, its sums and how large they are, and the worked edges of the calls.
+pub mod Accepted
+pub mod Partly
+pub mod SineAhead
 pub mod HalvedSums
 pub mod FoldedBounds
 pub mod FoldedLines
-pub mod Lines
-pub mod Distance
 pub mod Worked
-pub mod Pulse
-pub mod Accepted

@@ -6,8 +6,9 @@ use Prim.Native.Nat.{ℕ, _-_, _^_}
 use lib.IntN.{ℤ, pos, negsuc}
 use lib.ListN.{replicate}
 use Rattle.algebra.specs.Lists.{anyOf}
-use Rattle.spectrum.specs.Line.{windowAt}
-use Rattle.spectrum.specs.Spectrum.{outOfRange, spectrumRefusal, spectrumExit, linesFromRefusal, linesFromExit}
+use Rattle.windows.specs.Window.{windowAt, outOfRange}
+use Rattle.spectrum.specs.Spectrum.{spectrumRefusal, spectrumExit}
+use Rattle.spectral_lines.specs.Calls.{linesFromRefusal, linesFromExit}
 
 -- a recording, a start, the length of the buffer, and the refusal
 pub record Case : Type 0 where

@@ -1,6 +1,4 @@
--- From samples to spectrum: document 01's lines, a window that is folded, the exact sums behind the lines, and what the call answers.
-pub mod Line
-pub mod Folding
-pub mod Exact
+-- What the call `spectrum` answers, and a window that is folded before its lines are worked.
 pub mod Spectrum
+pub mod Halving
 pub mod Prepared

@@ -8,9 +8,11 @@ use lib.ListN.{length}
 use Rattle.algebra.specs.Lists.{anyOf}
 use Rattle.refusals.specs.Answers.{unlessRefused}
 use Rattle.sine.specs.Wave.{waveList}
-use Rattle.spectrum.specs.Line.{windowLength, windowAt, lineOf, linesFrom}
-use Rattle.spectrum.specs.Folding.{heldBy, foldedWindow, largestFolded}
-use Rattle.spectrum.specs.Spectrum.{outOfRange, windowRefusal}
+use Rattle.windows.specs.Window.{windowLength, windowAt, outOfRange}
+use Rattle.spectral_lines.specs.Line.{lineOf, linesFrom}
+use Rattle.spectral_lines.specs.Folding.{heldBy}
+use Rattle.spectrum.specs.Halving.{foldedWindow, largestFolded}
+use Rattle.windows.specs.Checks.{windowRefusal}
 
 -- a window in range, folded, and one turn of the table's sine
 pub record Prepared (folded wave : List ℤ) : Type 0 where

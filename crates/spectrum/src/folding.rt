@@ -1,16 +1,16 @@
 // A window folded before anything is multiplied (document 02, card 13): the samples j and 2048 − j first, and then on as far as the sine table's exact symmetries go.
 // Where the wave at two places is the same, the sum of what they hold serves both; where it is opposite, their difference does. So each folding keeps every sum over the places,
 // half of them serve the lines that end with it, and the other half go on. All is done in one list, and each place keeps its own angle.
-use crate::WINDOW_LENGTH;
+use windows::WINDOW_LENGTH;
 ghost use mathlib.Core.Bool.{false};
 ghost use mathlib.Core.Path.{_≡_};
 ghost use Prim.Native.Nat.{_*_, _^_, _<_};
 ghost use lib.IntN.{natAbs, _+ℤ_, _-ℤ_};
 ghost use lib.ListN.{length};
 ghost use Rattle.algebra.specs.Lists.{anyOf};
-ghost use Rattle.spectrum.specs.Line.{windowLength};
-ghost use Rattle.spectrum.specs.Spectrum.{largestSample, outOfRange};
-ghost use Rattle.spectrum.specs.Folding.{heldBy, Bounded, folded, halvedFrom, foldedWindow};
+ghost use Rattle.windows.specs.Window.{windowLength, largestSample, outOfRange};
+ghost use Rattle.spectral_lines.specs.Folding.{heldBy, folded};
+ghost use Rattle.spectrum.specs.Halving.{Bounded, halvedFrom, foldedWindow};
 
 // The last place of a window.
 const LAST: usize = WINDOW_LENGTH - 1;

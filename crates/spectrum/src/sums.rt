@@ -1,40 +1,33 @@
 // One line of a folded window: the sums over the places where the line's foldings end, rounded and squared.
 // Samples in range keep every sum below 2^58, so 64 bits hold it whole, and nothing is rounded before the division by 2^29.
-use crate::WINDOW_LENGTH;
 use sine::HALF_TURN;
 use sine::QUARTER_TURN;
 use sine::TURN;
+use spectral_lines::Sums;
+use spectral_lines::line_of;
+use spectral_lines::rounded;
+use windows::WINDOW_LENGTH;
+use windows::product;
 ghost use mathlib.Core.Bool.{cond};
 ghost use mathlib.Core.Path.{_≡_};
 ghost use Prim.Native.Nat.{suc, _+_, _*_, _%_, _^_, _<_};
 ghost use lib.Dec.{eqb};
 ghost use lib.IntN.{natAbs, negℤ, _+ℤ_, _*ℤ_};
-ghost use Rattle.algebra.specs.Integers.{square};
-ghost use Rattle.algebra.specs.Rounding.{nearestℤ};
 ghost use Rattle.sine.specs.Turn.{turn, quarterTurn};
-ghost use Rattle.spectrum.specs.Line.{lineLimit, sumScale};
-ghost use Rattle.spectrum.specs.Folding.{heldBy, placeSum, partSum, cosineOf, EndsAt, sineAhead};
+ghost use Rattle.spectral_lines.specs.Line.{lineLimit};
+ghost use Rattle.spectral_lines.specs.Folding.{heldBy, placeSum, cosineOf};
+ghost use Rattle.spectrum.specs.Halving.{partSum, EndsAt, sineAhead};
 ghost use Rattle.spectrum.specs.Prepared.{Prepared, Parts, LineOfFolded};
 
 // The first halving is at a quarter of the window.
 const FIRST_HALF: usize = WINDOW_LENGTH / 4;
-// The sums are divided by 2 to this power.
-const SUM_SHIFT: i64 = 29;
-// Half of what they are divided by.
-const HALF_SUM_SCALE: i64 = 1 << (SUM_SHIFT - 1);
-
-// Both sums of a line; of a folded window the sine's but for its sign.
-pub(crate) struct Sums {
-    pub(crate) cosine: i64,
-    pub(crate) sine: i64,
-}
 
 // The sum with one more summand: sample times wave.
-pub(crate) fn accumulate(sum: i64, sample: i32, wave: i32) -> i64
+fn accumulate(sum: i64, sample: i32, wave: i32) -> i64
     requires { ⌜ natAbs sum < 2 ^ 62 ⌝ }
     ensures { λ r. ⌜ r ≡ sum +ℤ sample *ℤ wave ⌝ }
 {
-    sum + (sample as i64) * (wave as i64)
+    sum + product(sample, wave)
 }
 
 // The half length of the halving at which line k ends.
@@ -116,15 +109,6 @@ fn sum_of_line_0(folded: &[i32], wave: &[i32; TURN]) -> i64
     accumulate(accumulate(0, folded[0], factor), folded[1], factor)
 }
 
-// The square of A or B: of the sum divided by 2^29, to the nearest, halves up.
-pub(crate) fn rounded_square(sum: i64) -> u64
-    requires { ⌜ natAbs sum < 2 ^ 58 ⌝ }
-    ensures { λ r. ⌜ r ≡ square (nearestℤ sum sumScale) ⌝ }
-{
-    let rounded = (sum + HALF_SUM_SCALE) >> SUM_SHIFT;
-    (rounded * rounded) as u64
-}
-
 // Line k of the window that was folded: the sum of the squares of A and B. Line 0 has no sine.
 pub(crate) fn line(folded: &[i32], wave: &[i32; TURN], k: usize) -> u64
     requires { ⌜ Prepared (now folded) (now wave) ⌝ }
@@ -132,9 +116,10 @@ pub(crate) fn line(folded: &[i32], wave: &[i32; TURN], k: usize) -> u64
     ensures { λ r. ⌜ LineOfFolded (now (folded .entry)) k r ⌝ }
 {
     if k == 0 {
-        return rounded_square(sum_of_line_0(folded, wave));
+        return line_of(rounded(sum_of_line_0(folded, wave)) as i32, 0);
     }
     let half = ending_half(k);
     let sums = folded_sums(folded, wave, k, half);
-    rounded_square(sums.cosine) + rounded_square(signed_sine(sums.sine, half * k))
+    let sine = signed_sine(sums.sine, half * k);
+    line_of(rounded(sums.cosine) as i32, rounded(sine) as i32)
 }

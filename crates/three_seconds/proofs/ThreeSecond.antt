@@ -4,18 +4,15 @@ use mathlib.Core.Path.{_≡_, refl}
 use mathlib.Core.Bool.{true}
 use mathlib.Core.List.{List}
 use Prim.Native.Nat.{ℕ, suc, _*_, _/_, _^_, _≤_, _<_}
-use native.Mathlib.Nat.{lt-of-lt-of-le, lt-of-le-of-lt, mul-le-mul}
+use native.Mathlib.Nat.{mul-le-mul}
 use native.Mathlib.Omega.{arith, by-contra}
 use borrow.Author.Tests.{ltb-false, not-false}
-use lib.Dec.{lit≤}
 use lib.ListN.{length, getD}
-use Rattle.algebra.proofs.Largest.{Bounded, largest-le, largest-ge}
-use Rattle.integers.specs.Root.{rootOf, rootLimit}
-use Rattle.limbs.specs.Limbs.{valueOf, limbsOf}
-use Rattle.limbs.proofs.Limbs.{valueOf-limbsOf-lt}
-use Rattle.wide_numbers.specs.WideNumbers.{wideLimbs}
+use Rattle.algebra.proofs.Largest.{Bounded, largest-le, largest-ge, largest-eq}
+use Rattle.square_root.specs.Root.{rootOf}
+use Rattle.square_root.proofs.RootLaws.{root-law, lt-rootLimit}
 use Rattle.wide_numbers.specs.Squares.{sumOfSquares}
-use Rattle.wide_numbers.proofs.SumsOfSquares.{sumOfSquares-le, mean-bounded, mean-root}
+use Rattle.wide_numbers.proofs.SumsOfSquares.{sumOfSquares-le, mean-bounded}
 use Rattle.refusals.specs.Numbers.{noRefusal, unsoundRecord, orderOutOfRange, tooFewWindows}
 use Rattle.refusals.proofs.Answers.{no-faults}
 use Rattle.rows.specs.Orders.{orderCount}
@@ -51,17 +48,15 @@ module _ (values : List ℕ) (whole : length values ≡ 15) (fit : (i : ℕ) →
       let large : 2 ^ 32 ≤ threeSecondOf values = omega arith in
       omega (arith, mul-le-mul large large, threeSecondOf-passes, sum-lt)
 
-  -- as it is worked out over four limbs
-  pub three-second-quotient :
-      rootOf (valueOf (limbsOf wideLimbs (rowsKept * valueOf (limbsOf wideLimbs (sumOfSquares values))))) / rowsKept ≡ threeSecondOf values
+  -- as it is worked out: the root of the mean square, both in whole
+  pub three-second-root : rootOf (sumOfSquares values / rowsKept) ≡ threeSecondOf values
   unfolding threeSecondOf
-  three-second-quotient =
-      let sum = sumOfSquares values in
-      let le : sum ≤ rowsKept * sum = omega arith in
-      let below : rowsKept * sum < 2 ^ 72 = omega (arith, sum-lt) in
-      let small : rowsKept * sum < rootLimit = lt-of-lt-of-le below (lit≤ tt) in
-      rw (valueOf-limbsOf-lt wideLimbs sum (lt-of-le-of-lt le small), valueOf-limbsOf-lt wideLimbs (rowsKept * sum) small)
-      (mean-root rowsKept sum threeSecondDigits (omega arith) small sum-lt)
+  three-second-root =
+      let mean = sumOfSquares values / rowsKept in
+      let root = root-law mean (lt-rootLimit mean (omega (arith, sum-lt))) in
+      largest-eq (λ t. rowsKept * (t * t)) (sumOfSquares values) threeSecondDigits bounded
+      (omega (arith, root .0))
+      (omega (arith, root .1))
 
 -- ---- a call that is not refused
 

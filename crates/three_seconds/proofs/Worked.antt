@@ -1,7 +1,7 @@
 -- Worked figures, and the whole answers of the call `three_second_value`: each a table of rows and one computed theorem over it.
 use mathlib.Core.List.{List, [], _∷_, _++_, map}
 use mathlib.Core.Path.{_≡_, refl}
-use Prim.Native.Nat.{ℕ, _+_, _-_}
+use Prim.Native.Nat.{ℕ, _+_}
 use lib.ListN.{replicate}
 use Rattle.algebra.specs.Largest.{largest}
 use Rattle.algebra.specs.Lists.{tabulate, joined, anyOf}
@@ -15,6 +15,7 @@ use Rattle.wide_numbers.specs.Squares.{sumOfSquares}
 use Rattle.observation.specs.declared.Observation.{Observation}
 use Rattle.observation.specs.Latest.{latestValues}
 use Rattle.observation.specs.Soundness.{noneAbove, allZero, isSound}
+use Rattle.observation.proofs.WorkedRecords.{workedRecord, keeping, single, rowsOf}
 use Rattle.three_seconds.specs.ThreeSecond.{threeSecondOf, threeSecondRefusal, threeSecondAnswer}
 
 -- ---- figures
@@ -56,24 +57,7 @@ figures-worked = refl
 -- a record by its system, its windows and its latest rows, whose other numbers are zeros
 abbrev holding : ℕ → ℕ → List ℕ → Observation
 holding system windows latest =
-    record {
-      setup = setupOf system 0;
-      windows = windows;
-      smoothed = replicate 40 0;
-      sum = replicate 40 0;
-      peak = replicate 40 0;
-      latest = latest;
-    }
-
--- the latest rows by the first value of each, and by the last, and those of which a single value is not 0
-abbrev firsts : List ℕ → List ℕ
-firsts values = joined (map (λ v. v ∷ replicate 39 0) values)
-
-abbrev lasts : List ℕ → List ℕ
-lasts values = joined (map (λ v. replicate 39 0 ++ (v ∷ [])) values)
-
-abbrev single : ℕ → ℕ → List ℕ
-single place value = replicate place 0 ++ (value ∷ replicate (599 - place) 0)
+    let zeros : List ℕ = replicate 40 0 in keeping latest (workedRecord (setupOf system 0) windows zeros zeros zeros)
 
 -- a record, an order, and what is answered
 pub record Call : Type 0 where
@@ -93,13 +77,13 @@ refused observation order refusal =
 abbrev calls : List Call
 calls =
     -- the first order and the last, at 15 windows
-    given (holding 10 15 (firsts (upTo 15))) 1 9 ∷
-    given (holding 12 15 (lasts (upTo 15))) 40 9 ∷
+    given (holding 10 15 (rowsOf 1 (upTo 15))) 1 9 ∷
+    given (holding 12 15 (rowsOf 40 (upTo 15))) 40 9 ∷
     given (holding 10 15 (replicate 600 4294967295)) 1 4294967295 ∷
     given (holding 10 15 (replicate 600 0)) 40 0 ∷
     -- the values of no other order count
-    given (holding 10 15 (firsts (upTo 15))) 2 0 ∷
-    given (holding 10 15 (lasts (upTo 15))) 39 0 ∷
+    given (holding 10 15 (rowsOf 1 (upTo 15))) 2 0 ∷
+    given (holding 10 15 (rowsOf 40 (upTo 15))) 39 0 ∷
     -- the oldest row counts and so does the latest, wherever they stand
     given (holding 10 15 (single 0 1000)) 1 258 ∷
     given (holding 10 15 (single 599 1000)) 40 258 ∷
@@ -108,17 +92,17 @@ calls =
     given (holding 10 44999 (single 599 1000)) 40 258 ∷
     given (holding 10 45000 (single 0 1000)) 1 258 ∷
     -- the sixteenth row where the first stood: 1239 + 16²
-    given (holding 10 16 (firsts (16 ∷ 2 ∷ 3 ∷ 4 ∷ 5 ∷ 6 ∷ 7 ∷ 8 ∷ 9 ∷ 10 ∷ 11 ∷ 12 ∷ 13 ∷ 14 ∷ 15 ∷ []))) 1 9 ∷
-    given (holding 10 16 (firsts (17 ∷ 2 ∷ 3 ∷ 4 ∷ 5 ∷ 6 ∷ 7 ∷ 8 ∷ 9 ∷ 10 ∷ 11 ∷ 12 ∷ 13 ∷ 14 ∷ 15 ∷ []))) 1 10 ∷
+    given (holding 10 16 (rowsOf 1 (16 ∷ 2 ∷ 3 ∷ 4 ∷ 5 ∷ 6 ∷ 7 ∷ 8 ∷ 9 ∷ 10 ∷ 11 ∷ 12 ∷ 13 ∷ 14 ∷ 15 ∷ []))) 1 9 ∷
+    given (holding 10 16 (rowsOf 1 (17 ∷ 2 ∷ 3 ∷ 4 ∷ 5 ∷ 6 ∷ 7 ∷ 8 ∷ 9 ∷ 10 ∷ 11 ∷ 12 ∷ 13 ∷ 14 ∷ 15 ∷ []))) 1 10 ∷
     -- 7: no such system, 45,001 windows, a kept value past the windows held
     refused (holding 11 15 (replicate 600 0)) 1 7 ∷
     refused (holding 10 45001 (replicate 600 0)) 1 7 ∷
     refused (holding 10 14 (single 560 1)) 1 7 ∷
     refused (holding 10 0 (single 599 1)) 1 7 ∷
     -- 6: the orders are 1..40
-    refused (holding 10 15 (firsts (upTo 15))) 0 6 ∷
-    refused (holding 10 15 (firsts (upTo 15))) 41 6 ∷
-    refused (holding 10 15 (firsts (upTo 15))) 4294967295 6 ∷
+    refused (holding 10 15 (rowsOf 1 (upTo 15))) 0 6 ∷
+    refused (holding 10 15 (rowsOf 1 (upTo 15))) 41 6 ∷
+    refused (holding 10 15 (rowsOf 1 (upTo 15))) 4294967295 6 ∷
     -- 20: before the fifteenth window
     refused (holding 10 0 (replicate 600 0)) 1 20 ∷
     refused (holding 10 14 (replicate 600 0)) 1 20 ∷

@@ -1,17 +1,17 @@
 -- The three-second value of an order, and what the call `three_second_value` answers (document 02, card 8).
-use mathlib.Core.Bool.{Bool, not}
+use mathlib.Core.Bool.{Bool}
 use mathlib.Core.List.{List, [], _∷_}
 use Prim.Native.Nat.{ℕ, _-_, _*_}
 use lib.Dec.{leb, ltb}
 use Rattle.algebra.specs.Largest.{largest}
-use Rattle.refusals.specs.Numbers.{unsoundRecord, tooFewWindows}
+use Rattle.refusals.specs.Numbers.{tooFewWindows}
 use Rattle.refusals.specs.Answers.{firstFault, answer}
 use Rattle.refusals.specs.declared.Answer.{Answer}
 use Rattle.rows.specs.Orders.{orderCheck}
 use Rattle.wide_numbers.specs.Squares.{sumOfSquares}
 use Rattle.observation.specs.declared.Observation.{Observation}
 use Rattle.observation.specs.Latest.{rowsKept, latestValues}
-use Rattle.observation.specs.Soundness.{isSound}
+use Rattle.observation.specs.Soundness.{soundFirst}
 
 -- binary digits that are enough: 15 squares of 32-bit values add up to less than 15 × 2^64
 abbrev pub threeSecondDigits : ℕ
@@ -31,7 +31,7 @@ askedChecks order windows = orderCheck order ∷ (ltb windows rowsKept, tooFewWi
 
 -- 7 record not sound comes before these
 abbrev pub threeSecondChecks : Observation → ℕ → List (Bool × ℕ)
-threeSecondChecks o order = (not (isSound o), unsoundRecord) ∷ askedChecks order (o .windows)
+threeSecondChecks o order = soundFirst o (askedChecks order (o .windows))
 
 unfoldable pub threeSecondRefusal : Observation → ℕ → ℕ
 threeSecondRefusal o order = firstFault (threeSecondChecks o order)

@@ -2,28 +2,26 @@
 use observation::Observation;
 use observation::ROWS_KEPT;
 use observation::VALUES_KEPT;
-use observation::is_sound;
 use observation::row_place;
+use observation::sound_fault_or;
 use refusals::Answer;
 use refusals::NO_REFUSAL;
 use refusals::ORDER_OUT_OF_RANGE;
 use refusals::TOO_FEW_WINDOWS;
-use refusals::UNSOUND_RECORD;
 use refusals::fault_or;
 use rows::is_order;
-use wide_numbers::scaled;
-use wide_numbers::sum_of_squares;
-use wide_numbers::wide_root;
-ghost use mathlib.Core.Bool.{not};
-ghost use mathlib.Core.List.{_∷_};
+use square_root::root;
 ghost use mathlib.Core.Path.{_≡_};
-ghost use Prim.Native.Nat.{_<_, _≤_};
-ghost use Rattle.refusals.specs.Numbers.{unsoundRecord};
+ghost use Prim.Native.Nat.{_/_, _<_, _≤_};
 ghost use Rattle.refusals.specs.Answers.{firstFault};
 ghost use Rattle.rows.specs.Orders.{orderCount};
-ghost use Rattle.observation.specs.Latest.{latestValues};
+ghost use Rattle.wide_numbers.specs.Squares.{sumOfSquares};
+ghost use Rattle.observation.specs.Latest.{rowsKept, latestValues};
 ghost use Rattle.observation.specs.Soundness.{mostWindows};
 ghost use Rattle.three_seconds.specs.ThreeSecond.{threeSecondOf, askedChecks, threeSecondAnswer};
+
+// The values of an order that count.
+const COUNT: u64 = ROWS_KEPT as u64;
 
 // What is kept of the order at a place of a row, the oldest first.
 fn kept_values(windows: u32, latest: &[u32; VALUES_KEPT], place: usize) -> [u32; ROWS_KEPT]
@@ -41,29 +39,42 @@ fn kept_values(windows: u32, latest: &[u32; VALUES_KEPT], place: usize) -> [u32;
     values
 }
 
-// The figure of 15 values. As 15 × t² at most x is (15 × t)² at most 15 × x, the largest t is the whole part of
-// the root of 15 × x, divided by 15.
+// The whole part of the mean of 15 squares. Their sum may pass 64 bits and the mean does not, so each square is
+// divided, and what is left over of it is added up apart.
+fn mean_square(values: [u32; ROWS_KEPT]) -> u64
+    ensures { λ r. ⌜ r ≡ sumOfSquares values / rowsKept ⌝ }
+{
+    let mut quotients: u64 = 0;
+    let mut remainders: u64 = 0;
+    let mut i = ROWS_KEPT;
+    while i > 0 {
+        i -= 1;
+        let value = values[i] as u64;
+        let square = value * value;
+        quotients += square / COUNT;
+        remainders += square % COUNT;
+    }
+    quotients + remainders / COUNT
+}
+
+// The figure of 15 values. As 15 × t² at most x is t² at most the whole part of x / 15, the largest t is the whole
+// part of the root of that.
 fn three_second_of(values: [u32; ROWS_KEPT]) -> u64
     ensures { λ r. ⌜ r ≡ threeSecondOf values ⌝ }
 {
-    let radicand = scaled(ROWS_KEPT as u64, sum_of_squares(&values));
-    wide_root(radicand) / ROWS_KEPT as u64
+    root(mean_square(values)) as u64
 }
 
-// The checks of what is asked of a record that is sound or not, in order: 7 record not sound, 6 order outside
-// 1..40, 20 fewer than 15 windows.
-fn three_second_refusal(sound: bool, order: u32, windows: u32) -> u32
-    ensures { λ r. ⌜ r ≡ firstFault ((not sound, unsoundRecord) ∷ askedChecks order windows) ⌝ }
+// The checks of what is asked that come after the record's soundness, in order: 6 order outside 1..40, 20 fewer
+// than 15 windows.
+fn asked_refusal(order: u32, windows: u32) -> u32
+    ensures { λ r. ⌜ r ≡ firstFault (askedChecks order windows) ⌝ }
 {
     let few = (windows as usize) < ROWS_KEPT;
     fault_or(
-        !sound,
-        UNSOUND_RECORD,
-        fault_or(
-            !is_order(order),
-            ORDER_OUT_OF_RANGE,
-            fault_or(few, TOO_FEW_WINDOWS, NO_REFUSAL),
-        ),
+        !is_order(order),
+        ORDER_OUT_OF_RANGE,
+        fault_or(few, TOO_FEW_WINDOWS, NO_REFUSAL),
     )
 }
 
@@ -71,15 +82,16 @@ fn three_second_refusal(sound: bool, order: u32, windows: u32) -> u32
 pub fn three_second_value(observation: Observation, order: u32) -> Answer
     ensures { λ r. ⌜ r ≡ threeSecondAnswer observation order ⌝ }
 {
-    let sound = is_sound(
+    let asked = asked_refusal(order, observation.windows);
+    let refusal = sound_fault_or(
         observation.setup,
         observation.windows,
         &observation.smoothed,
         &observation.sum,
         &observation.peak,
         &observation.latest,
+        asked,
     );
-    let refusal = three_second_refusal(sound, order, observation.windows);
     if refusal != NO_REFUSAL {
         return Answer { refusal, value: 0 };
     }

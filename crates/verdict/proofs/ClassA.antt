@@ -5,8 +5,8 @@ use Rattle.observation.specs.declared.Observation.{Observation}
 use Rattle.limits.specs.declared.Class.the-variants.{A}
 use Rattle.limits.specs.Letters.{letterOf, isClass, classWith}
 use Rattle.limits.specs.Limit.{limitOf}
+use Rattle.limit_tests.specs.Limit.{limitInUnits, peakLimitInUnits}
 use Rattle.verdict.specs.Question.{asked}
-use Rattle.verdict.specs.Limit.{limitInUnits, peakLimitInUnits}
 use Rattle.verdict.specs.Call.{verdictIn, verdictRefusal, verdictAnswer}
 use Rattle.verdict.specs.ClassA.{answer01}
 

@@ -7,7 +7,7 @@ use Rattle.observation.specs.declared.Observation.{Observation}
 use Rattle.fractions.proofs.Parts.{parts-same}
 use Rattle.limits.specs.declared.Class.the-variants.{A, B}
 use Rattle.limits.specs.Limit.{limitOf}
-use Rattle.verdict.specs.Limit.{limitInUnits, peakLimitInUnits}
+use Rattle.limit_tests.specs.Limit.{limitInUnits, peakLimitInUnits}
 use Rattle.verdict.specs.Call.{verdictIn}
 use Rattle.verdict.proofs.Limits.{combined-same}
 

@@ -3,9 +3,8 @@ use mathlib.Core.Path.{_≡_, refl}
 use mathlib.Core.Bool.{Bool, true, false, cond, _&&_, _||_}
 use mathlib.Core.Logic.{_⊎_, inl, inr, ⊎-map}
 use Prim.Native.Nat.{ℕ, _≤_, _<_}
-use native.Mathlib.Nat.{mul-one}
 use native.Mathlib.Omega.{arith}
-use borrow.Author.Tests.{leb-true, leb-false, eqb-false, not-true, not-false}
+use borrow.Author.Tests.{eqb-false, not-false}
 use Rattle.algebra.specs.Fraction.{Fraction, whole, _+ᶠ_, _≤ᶠ_, _<ᶠ_}
 use Rattle.algebra.proofs.Tests.{leb-range}
 use Rattle.rows.specs.Orders.{orderCount}
@@ -15,19 +14,19 @@ use Rattle.observation.specs.declared.Observation.{Observation}
 use Rattle.observation.specs.Soundness.{isSound}
 use Rattle.observation.specs.Smoothing.{smoothedMargin}
 use Rattle.observation.specs.Average.{averageOf, peakOf}
-use Rattle.fractions.specs.declared.Fraction.{Fraction as Held}
-use Rattle.fractions.specs.Parts.{parts, raised, atMost}
+use Rattle.fractions.specs.declared.Ratio.{Ratio}
 use Rattle.limits.specs.declared.Class.{Class}
 use Rattle.limits.specs.Letters.{isClass}
 use Rattle.limits.specs.Limit.{firstLimited, hasLimit}
 use Rattle.limits.proofs.Limits.{limited-ge, limited-le}
+use Rattle.limit_tests.specs.Limit.{limitInUnits, peakLimitInUnits}
+use Rattle.limit_tests.specs.Tests.{isWithin, isOver, Touches}
+use Rattle.limit_tests.proofs.TestLaws.{within-le, over-gt, neither-touches}
 use Rattle.verdict.specs.declared.Question.{Question}
 use Rattle.verdict.specs.declared.Verdict.{Verdict}
 use Rattle.verdict.specs.declared.Verdict.the-variants.{Within, Close, Over}
 use Rattle.verdict.specs.declared.VerdictAnswer.the-variants.{Given}
 use Rattle.verdict.specs.Question.{largestScale}
-use Rattle.verdict.specs.Limit.{limitInUnits, peakLimitInUnits}
-use Rattle.verdict.specs.Tests.{isWithin, isOver, Touches}
 use Rattle.verdict.specs.Call.{combined, verdictIn, verdictOf, verdictChecks, verdictRefusal, verdictAnswer, orderNumber}
 
 -- ---- a call that is not refused
@@ -65,29 +64,10 @@ module _ (o : Observation) (q : Question) (passed : verdictRefusal o q ≡ noRef
   unfolding verdictAnswer
   accepted-given = rw passed
 
--- ---- the two tests, as orders of fractions
-
-module _ (value limit : Fraction) where
-  pub within-le : isWithin (parts value) (parts limit) ≡ true → value +ᶠ whole smoothedMargin ≤ᶠ limit
-  unfolding isWithin raised atMost whole _+ᶠ_
-  within-le e = simp mul-one (leb-true _ _ e)
-
-  pub not-within-gt : isWithin (parts value) (parts limit) ≡ false → limit <ᶠ value +ᶠ whole smoothedMargin
-  unfolding isWithin raised atMost whole _+ᶠ_
-  not-within-gt e = simp mul-one (leb-false _ _ e)
-
-  pub over-gt : isOver (parts value) (parts limit) ≡ true → limit +ᶠ whole smoothedMargin <ᶠ value
-  unfolding isOver raised atMost whole _+ᶠ_
-  over-gt e = simp mul-one (leb-false _ _ (not-true _ e))
-
-  pub not-over-le : isOver (parts value) (parts limit) ≡ false → value ≤ᶠ limit +ᶠ whole smoothedMargin
-  unfolding isOver raised atMost whole _+ᶠ_
-  not-over-le e = simp mul-one (leb-true _ _ (not-false _ e))
-
 -- ---- the three cases
 
 -- what a choice by two tests gives: over only if a test is over, within only if both are within, and close only if neither is over and one is not within
-module _ (average limit peak peakLimit : Held) (order : ℕ) where
+module _ (average limit peak peakLimit : Ratio) (order : ℕ) where
   pub by-tests :
       (P : Verdict → Type 0) →
       ((isOver average limit ≡ true) ⊎ (isOver peak peakLimit ≡ true) → P (Over order)) →
@@ -133,10 +113,7 @@ module _ (class : Class) (o : Observation) (order scale : ℕ) where
       (Says limit peakLimit average peak)
       (⊎-map (over-gt average limit) (over-gt peak peakLimit))
       (λ e f. (within-le average limit e, within-le peak peakLimit f))
-      (λ e f.
-      ⊎-map
-      (λ g. record { not-over = not-over-le average limit e; not-within = not-within-gt average limit g })
-      (λ g. record { not-over = not-over-le peak peakLimit f; not-within = not-within-gt peak peakLimit g }))
+      (λ e f. ⊎-map (neither-touches average limit e) (neither-touches peak peakLimit f))
 
   pub verdict-order : orderNumber (verdictIn class o order scale) ≡ order
   unfolding verdictIn orderNumber

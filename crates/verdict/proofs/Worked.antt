@@ -2,8 +2,7 @@
 -- refusals in one call) and of their cases, each a table of rows and one computed theorem over it.
 use mathlib.Core.Path.{_≡_, refl}
 use mathlib.Core.List.{List, [], _∷_, map}
-use Prim.Native.Nat.{ℕ, _-_}
-use lib.ListN.{replicate, set}
+use Prim.Native.Nat.{ℕ}
 use Rattle.algebra.specs.Fraction.{whole, times, divide}
 use Rattle.algebra.specs.Lists.{anyOf}
 use Rattle.rows.specs.Systems.{isSystem}
@@ -13,6 +12,7 @@ use Rattle.observation.specs.declared.Observation.{Observation}
 use Rattle.observation.specs.Soundness.{noneAbove, allZero, isSound}
 use Rattle.observation.specs.Calls.{emptyRecord}
 use Rattle.observation.specs.Average.{averageOf, peakOf}
+use Rattle.observation.proofs.WorkedRecords.{workedRecord, only}
 use Rattle.verdict.specs.declared.Verdict.{Verdict}
 use Rattle.verdict.specs.declared.Verdict.the-variants.{Within, Close, Over}
 use Rattle.verdict.specs.declared.VerdictAnswer.{VerdictAnswer}
@@ -21,27 +21,15 @@ use Rattle.verdict.specs.Question.{asked}
 use Rattle.fractions.specs.Parts.{raised, atMost}
 use Rattle.limits.specs.Letters.{letterOf, isClass, classWith}
 use Rattle.limits.specs.Limit.{ownFigures, overOrder, figureIn, classALimit, limitOf}
-use Rattle.verdict.specs.Limit.{limitInUnits, peakLimitInUnits}
-use Rattle.verdict.specs.Tests.{isWithin, isOver}
+use Rattle.limit_tests.specs.Limit.{limitInUnits, peakLimitInUnits}
+use Rattle.limit_tests.specs.Tests.{isWithin, isOver}
 use Rattle.verdict.specs.Call.{combined, verdictIn, verdictRefusal, verdictAnswer, refusalNumber, orderNumber}
 
 -- ---- the verdicts
 
--- the numbers of one order, and zeros at every other
-only : ℕ → ℕ → List ℕ
-only order value = set (replicate 40 0) (order - 1) value
-
 -- a record of some windows with the sum and the peak of one order
 observed : ℕ → ℕ → ℕ → ℕ → Observation
-observed windows order sum peak =
-    record {
-      setup = setupOf 10 0;
-      windows = windows;
-      smoothed = only order peak;
-      sum = only order sum;
-      peak = only order peak;
-      latest = replicate 600 0;
-    }
+observed windows order sum peak = workedRecord (setupOf 10 0) windows (only order peak) (only order sum) (only order peak)
 
 -- one window with a value at one order
 oneWindow : ℕ → ℕ → Observation
@@ -60,16 +48,21 @@ verdictCases =
     (verdictAnswer (observed 2 3 4000000 3449989) (asked 3 65 1000000), Given (Close 3)) ∷
     (verdictAnswer (observed 2 3 4000000 3450012) (asked 3 65 1000000), Given (Close 3)) ∷
     (verdictAnswer (observed 2 3 4000000 3450013) (asked 3 65 1000000), Given (Over 3)) ∷
-    -- a limit that is not whole: 2250000/39 is above 57692 and below 57693
-    (verdictAnswer (oneWindow 39 57680) (asked 39 65 1000000), Given (Within 39)) ∷
-    (verdictAnswer (oneWindow 39 57681) (asked 39 65 1000000), Given (Close 39)) ∷
-    (verdictAnswer (oneWindow 39 57704) (asked 39 65 1000000), Given (Close 39)) ∷
-    (verdictAnswer (oneWindow 39 57705) (asked 39 65 1000000), Given (Over 39)) ∷
-    -- the peak of such a limit, against 3375000/39, above 86538 and below 86539
-    (verdictAnswer (observed 2 39 100000 86526) (asked 39 65 1000000), Given (Within 39)) ∷
-    (verdictAnswer (observed 2 39 100000 86527) (asked 39 65 1000000), Given (Close 39)) ∷
-    (verdictAnswer (observed 2 39 100000 86550) (asked 39 65 1000000), Given (Close 39)) ∷
-    (verdictAnswer (observed 2 39 100000 86551) (asked 39 65 1000000), Given (Over 39)) ∷
+    -- a limit that is not whole: 2250000/19 is 118421 and 1/19
+    (verdictAnswer (oneWindow 19 118409) (asked 19 65 1000000), Given (Within 19)) ∷
+    (verdictAnswer (oneWindow 19 118410) (asked 19 65 1000000), Given (Close 19)) ∷
+    (verdictAnswer (oneWindow 19 118433) (asked 19 65 1000000), Given (Close 19)) ∷
+    (verdictAnswer (oneWindow 19 118434) (asked 19 65 1000000), Given (Over 19)) ∷
+    -- against it the average of 19 windows, which is not divided either: 19 times the limit is 2250000, and 19 × 12 is 228
+    (verdictAnswer (observed 19 19 2249772 0) (asked 19 65 1000000), Given (Within 19)) ∷
+    (verdictAnswer (observed 19 19 2249773 0) (asked 19 65 1000000), Given (Close 19)) ∷
+    (verdictAnswer (observed 19 19 2250228 0) (asked 19 65 1000000), Given (Close 19)) ∷
+    (verdictAnswer (observed 19 19 2250229 0) (asked 19 65 1000000), Given (Over 19)) ∷
+    -- the peak of such a limit, against 3375000/19, 177631 and 11/19
+    (verdictAnswer (observed 2 19 200000 177619) (asked 19 65 1000000), Given (Within 19)) ∷
+    (verdictAnswer (observed 2 19 200000 177620) (asked 19 65 1000000), Given (Close 19)) ∷
+    (verdictAnswer (observed 2 19 200000 177643) (asked 19 65 1000000), Given (Close 19)) ∷
+    (verdictAnswer (observed 2 19 200000 177644) (asked 19 65 1000000), Given (Over 19)) ∷
     -- class B: the average decides, against 3450000; value + 12 equal to the limit and one more, value − 12 equal and one more
     (verdictAnswer (oneWindow 3 3449988) (asked 3 66 1000000), Given (Within 3)) ∷
     (verdictAnswer (oneWindow 3 3449989) (asked 3 66 1000000), Given (Close 3)) ∷
@@ -80,15 +73,15 @@ verdictCases =
     (verdictAnswer (observed 2 3 6000000 5174989) (asked 3 66 1000000), Given (Close 3)) ∷
     (verdictAnswer (observed 2 3 6000000 5175012) (asked 3 66 1000000), Given (Close 3)) ∷
     (verdictAnswer (observed 2 3 6000000 5175013) (asked 3 66 1000000), Given (Over 3)) ∷
-    -- limits that are not whole: 3375000/39 as above, and 5062500/39 above 129807 and below 129808
-    (verdictAnswer (oneWindow 39 86526) (asked 39 66 1000000), Given (Within 39)) ∷
-    (verdictAnswer (oneWindow 39 86527) (asked 39 66 1000000), Given (Close 39)) ∷
-    (verdictAnswer (oneWindow 39 86550) (asked 39 66 1000000), Given (Close 39)) ∷
-    (verdictAnswer (oneWindow 39 86551) (asked 39 66 1000000), Given (Over 39)) ∷
-    (verdictAnswer (observed 2 39 100000 129795) (asked 39 66 1000000), Given (Within 39)) ∷
-    (verdictAnswer (observed 2 39 100000 129796) (asked 39 66 1000000), Given (Close 39)) ∷
-    (verdictAnswer (observed 2 39 100000 129819) (asked 39 66 1000000), Given (Close 39)) ∷
-    (verdictAnswer (observed 2 39 100000 129820) (asked 39 66 1000000), Given (Over 39)) ∷
+    -- limits that are not whole: 3375000/19 as above, and 5062500/19, 266447 and 7/19
+    (verdictAnswer (oneWindow 19 177619) (asked 19 66 1000000), Given (Within 19)) ∷
+    (verdictAnswer (oneWindow 19 177620) (asked 19 66 1000000), Given (Close 19)) ∷
+    (verdictAnswer (oneWindow 19 177643) (asked 19 66 1000000), Given (Close 19)) ∷
+    (verdictAnswer (oneWindow 19 177644) (asked 19 66 1000000), Given (Over 19)) ∷
+    (verdictAnswer (observed 2 19 200000 266435) (asked 19 66 1000000), Given (Within 19)) ∷
+    (verdictAnswer (observed 2 19 200000 266436) (asked 19 66 1000000), Given (Close 19)) ∷
+    (verdictAnswer (observed 2 19 200000 266459) (asked 19 66 1000000), Given (Close 19)) ∷
+    (verdictAnswer (observed 2 19 200000 266460) (asked 19 66 1000000), Given (Over 19)) ∷
     -- 6: the orders 2..40 are judged
     (verdictAnswer (oneWindow 3 0) (asked 1 65 1000000), Refused 6) ∷
     (verdictAnswer (oneWindow 3 0) (asked 2 65 1000000), Given (Within 2)) ∷
@@ -123,7 +116,7 @@ verdictCases =
     []
 
 verdicts-worked : map (λ row. row .0) verdictCases ≡ map (λ row. row .1) verdictCases
-unfolding verdictCases only observed oneWindow emptyRecord isSetup isSystem isEdition anyOf noneAbove allZero isSound whole times divide limitOf classALimit figureIn ownFigures overOrder limitInUnits peakLimitInUnits raised atMost isWithin isOver averageOf peakOf combined verdictIn verdictRefusal verdictAnswer isClass classWith letterOf
+unfolding verdictCases observed oneWindow emptyRecord isSetup isSystem isEdition anyOf noneAbove allZero isSound whole times divide limitOf classALimit figureIn ownFigures overOrder limitInUnits peakLimitInUnits raised atMost isWithin isOver averageOf peakOf combined verdictIn verdictRefusal verdictAnswer isClass classWith letterOf
 verdicts-worked = refl
 
 -- ---- the numbers of the cases

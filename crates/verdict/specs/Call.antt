@@ -4,27 +4,26 @@ use mathlib.Core.List.{List, [], _∷_}
 use Prim.Native.Nat.{ℕ}
 use lib.Dec.{eqb}
 use Rattle.algebra.specs.Fraction.{Fraction}
-use Rattle.refusals.specs.Numbers.{noRefusal, unsoundRecord, noWindow, scaleOutOfRange}
+use Rattle.refusals.specs.Numbers.{noRefusal, noWindow, scaleOutOfRange}
 use Rattle.refusals.specs.Answers.{firstFault, unlessRefused}
 use Rattle.observation.specs.declared.Observation.{Observation}
-use Rattle.observation.specs.Soundness.{isSound}
+use Rattle.observation.specs.Soundness.{soundFirst}
 use Rattle.observation.specs.Average.{averageOf, peakOf}
-use Rattle.fractions.specs.declared.Fraction.{Fraction as Held}
+use Rattle.fractions.specs.declared.Ratio.{Ratio}
 use Rattle.fractions.specs.Parts.{parts}
 use Rattle.limits.specs.declared.Class.{Class}
-use Rattle.limits.specs.Letters.{classWith}
 use Rattle.limits.specs.Call.{limitedOrderCheck, classCheck}
+use Rattle.limit_tests.specs.Limit.{limitInUnits, peakLimitInUnits}
+use Rattle.limit_tests.specs.Tests.{isWithin, isOver}
 use Rattle.verdict.specs.declared.Question.{Question}
 use Rattle.verdict.specs.declared.Verdict.{Verdict}
 use Rattle.verdict.specs.declared.Verdict.the-variants.{Within, Close, Over}
 use Rattle.verdict.specs.declared.VerdictAnswer.{VerdictAnswer}
 use Rattle.verdict.specs.declared.VerdictAnswer.the-variants.{Given, Refused}
-use Rattle.verdict.specs.Question.{isScale}
-use Rattle.verdict.specs.Limit.{limitInUnits, peakLimitInUnits}
-use Rattle.verdict.specs.Tests.{isWithin, isOver}
+use Rattle.verdict.specs.Question.{classAsked, isScale}
 
 -- "over if either test is, within if both are, else close", each case with the order
-unfoldable pub combined : Held → Held → Held → Held → ℕ → Verdict
+unfoldable pub combined : Ratio → Ratio → Ratio → Ratio → ℕ → Verdict
 combined average limit peak peakLimit order =
     cond (isOver average limit || isOver peak peakLimit) (Over order)
     (cond (isWithin average limit && isWithin peak peakLimit) (Within order) (Close order))
@@ -43,9 +42,9 @@ judged class average peak order scale =
 unfoldable pub verdictIn : Class → Observation → ℕ → ℕ → Verdict
 verdictIn class o order scale = judged class (averageOf o order) (peakOf o order) order scale
 
--- the verdict of what is asked, in the class that the letter names
+-- the verdict of what is asked, in the class that is asked
 abbrev pub verdictOf : Observation → Question → Verdict
-verdictOf o q = verdictIn (classWith (q .letter)) o (q .order) (q .scale)
+verdictOf o q = verdictIn (classAsked q) o (q .order) (q .scale)
 
 -- 10 no window yet; 6 order outside 2..40; 15 class letter other than A or B, "tested after the order and before K"; 11 K outside 1..2^28
 abbrev pub questionChecks : ℕ → Question → List (Bool × ℕ)
@@ -58,7 +57,7 @@ questionChecks windows q =
 
 -- 7 record not sound comes before these
 abbrev pub verdictChecks : Observation → Question → List (Bool × ℕ)
-verdictChecks o q = (not (isSound o), unsoundRecord) ∷ questionChecks (o .windows) q
+verdictChecks o q = soundFirst o (questionChecks (o .windows) q)
 
 unfoldable pub verdictRefusal : Observation → Question → ℕ
 verdictRefusal o q = firstFault (verdictChecks o q)

@@ -4,18 +4,18 @@ use mathlib.Core.List.{List, [], _∷_}
 use Prim.Native.Nat.{ℕ}
 use lib.Dec.{eqb}
 use Rattle.algebra.specs.Fraction.{Fraction}
-use Rattle.refusals.specs.Numbers.{unsoundRecord, noWindow, orderOutOfRange, scaleOutOfRange}
+use Rattle.refusals.specs.Numbers.{noWindow, orderOutOfRange, scaleOutOfRange}
 use Rattle.refusals.specs.Answers.{firstFault, unlessRefused}
 use Rattle.observation.specs.declared.Observation.{Observation}
-use Rattle.observation.specs.Soundness.{isSound}
+use Rattle.observation.specs.Soundness.{soundFirst}
 use Rattle.observation.specs.Average.{averageOf, peakOf}
 use Rattle.fractions.specs.Parts.{parts}
 use Rattle.limits.specs.Limit.{hasLimit, classALimit, threeHalves}
+use Rattle.limit_tests.specs.Limit.{inUnits}
 use Rattle.verdict.specs.declared.Verdict.{Verdict}
 use Rattle.verdict.specs.declared.VerdictAnswer.{VerdictAnswer}
 use Rattle.verdict.specs.declared.VerdictAnswer.the-variants.{Given, Refused}
 use Rattle.verdict.specs.Question.{isScale}
-use Rattle.verdict.specs.Limit.{inUnits}
 use Rattle.verdict.specs.Call.{combined}
 
 -- "The limit in units is the mA figure × K / 1000"
@@ -36,11 +36,11 @@ module _ (o : Observation) (order scale : ℕ) where
   -- "7 record not sound; 10 no window yet; 6 order outside 2..40; 11 K outside 1..2^28"
   abbrev pub checks01 : List (Bool × ℕ)
   checks01 =
-      (not (isSound o), unsoundRecord) ∷
+      soundFirst o (
       (eqb (o .windows) 0, noWindow) ∷
       (not (hasLimit order), orderOutOfRange) ∷
       (not (isScale scale), scaleOutOfRange) ∷
-      []
+      [])
 
   unfoldable pub answer01 : VerdictAnswer
   answer01 = unlessRefused (firstFault checks01) (Given verdict01) (Refused (firstFault checks01))

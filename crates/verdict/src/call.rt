@@ -2,30 +2,27 @@
 use crate::Question;
 use crate::Verdict;
 use crate::VerdictAnswer;
-use crate::limit::listed_in_units;
-use crate::limit::three_halves;
-use crate::tests::is_over;
-use crate::tests::is_within;
-use fractions::Fraction;
+use fractions::Ratio;
+use limit_tests::is_over;
+use limit_tests::is_within;
+use limit_tests::limit_in_units;
+use limit_tests::peak_limit_in_units;
 use limits::Class;
 use limits::class_with;
 use limits::has_limit;
 use limits::is_class;
 use observation::Observation;
-use observation::is_sound;
+use observation::sound_fault_or;
 use refusals::NO_REFUSAL;
 use refusals::NO_WINDOW;
 use refusals::ORDER_OUT_OF_RANGE;
 use refusals::SCALE_OUT_OF_RANGE;
 use refusals::UNKNOWN_CLASS;
-use refusals::UNSOUND_RECORD;
 use refusals::fault_or;
-ghost use mathlib.Core.Bool.{true, not};
-ghost use mathlib.Core.List.{_∷_};
+ghost use mathlib.Core.Bool.{true};
 ghost use mathlib.Core.Path.{_≡_};
 ghost use Prim.Native.Nat.{_<_};
 ghost use Rattle.algebra.specs.Fraction.{whole};
-ghost use Rattle.refusals.specs.Numbers.{unsoundRecord};
 ghost use Rattle.refusals.specs.Answers.{firstFault};
 ghost use Rattle.observation.specs.Average.{average};
 ghost use Rattle.limits.specs.Limit.{hasLimit};
@@ -34,27 +31,23 @@ ghost use Rattle.verdict.specs.Call.{combined, judged, questionChecks, v
 // The largest number of units per ampere.
 const LARGEST_SCALE: u32 = 1 << 28;
 
-// The refusal table's row "verdict" for a record that is sound or not: the number of the first fault.
-fn question_refusal(sound: bool, windows: u32, question: Question) -> u32
-    ensures { λ r. ⌜ r ≡ firstFault ((not sound, unsoundRecord) ∷ questionChecks windows question) ⌝ }
+// The checks of the refusal table's row "verdict" that come after soundness: the number of the first fault.
+fn question_refusal(windows: u32, question: Question) -> u32
+    ensures { λ r. ⌜ r ≡ firstFault (questionChecks windows question) ⌝ }
 {
     fault_or(
-        !sound,
-        UNSOUND_RECORD,
+        windows == 0,
+        NO_WINDOW,
         fault_or(
-            windows == 0,
-            NO_WINDOW,
+            !has_limit(question.order),
+            ORDER_OUT_OF_RANGE,
             fault_or(
-                !has_limit(question.order),
-                ORDER_OUT_OF_RANGE,
+                !is_class(question.letter),
+                UNKNOWN_CLASS,
                 fault_or(
-                    !is_class(question.letter),
-                    UNKNOWN_CLASS,
-                    fault_or(
-                        !((1 <= question.scale) & (question.scale <= LARGEST_SCALE)),
-                        SCALE_OUT_OF_RANGE,
-                        NO_REFUSAL,
-                    ),
+                    !((1 <= question.scale) & (question.scale <= LARGEST_SCALE)),
+                    SCALE_OUT_OF_RANGE,
+                    NO_REFUSAL,
                 ),
             ),
         ),
@@ -62,13 +55,7 @@ fn question_refusal(sound: bool, windows: u32, question: Question) -> u32
 }
 
 // Over if either test is, within if both are, else close.
-fn combined(
-    average: Fraction,
-    limit: Fraction,
-    peak: Fraction,
-    peak_limit: Fraction,
-    order: u32,
-) -> Verdict
+fn combined(average: Ratio, limit: Ratio, peak: Ratio, peak_limit: Ratio, order: u32) -> Verdict
     ensures { λ r. ⌜ r ≡ combined average limit peak «peak_limit» order ⌝ }
 {
     if is_over(average, limit) | is_over(peak, peak_limit) {
@@ -86,16 +73,16 @@ fn judged(class: Class, sum: u64, windows: u32, peak: u64, order: u32, scale: u3
     requires { ⌜ 0 < windows ⌝ }
     ensures { λ r. ⌜ r ≡ judged class (average (whole sum) windows) (whole peak) order scale ⌝ }
 {
-    let average = Fraction {
+    let average = Ratio {
         numerator: sum,
         denominator: windows as u64,
     };
-    let peak = Fraction {
+    let peak = Ratio {
         numerator: peak,
         denominator: 1,
     };
-    let limit = listed_in_units(class, order, scale);
-    let peak_limit = three_halves(limit);
+    let limit = limit_in_units(class, order, scale);
+    let peak_limit = peak_limit_in_units(class, order, scale);
     combined(average, limit, peak, peak_limit, order)
 }
 
@@ -105,15 +92,16 @@ pub fn order_verdict(observation: Observation, question: Question) -> VerdictAns
     ensures { λ r. ⌜ r ≡ verdictAnswer observation question ⌝ }
     ensures { λ r. ⌜ refusalNumber r ≡ verdictRefusal observation question ⌝ }
 {
-    let sound = is_sound(
+    let asked = question_refusal(observation.windows, question);
+    let refusal = sound_fault_or(
         observation.setup,
         observation.windows,
         &observation.smoothed,
         &observation.sum,
         &observation.peak,
         &observation.latest,
+        asked,
     );
-    let refusal = question_refusal(sound, observation.windows, question);
     if refusal != NO_REFUSAL {
         return VerdictAnswer::Refused(refusal);
     }

@@ -1,7 +1,5 @@
 // The verdict of an order against the limits of IEC 61000-3-2, in class A or B.
 mod call;
-mod limit;
-mod tests;
 
 pub use call::order_verdict;
 

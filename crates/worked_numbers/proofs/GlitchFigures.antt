@@ -1,7 +1,7 @@
 -- The bounds of card 14 in figures, at each system and under each edition: 10×d + 14 units for a group value, and for a smoothed one
 -- 1000 × (10×d + 14) over 8012, rounded up; of the library's calls and of the exported ones. The claims name their numbers, and a weaker
 -- one would be proved as well; here it is refused.
-use mathlib.Core.Path.{_≡_, refl}
+use mathlib.Core.Path.{_≡_}
 use mathlib.Core.Bool.{true}
 use mathlib.Core.List.{List}
 use Prim.Native.Nat.{ℕ, _+_, _-_, _*_, _/_, _≤_}
@@ -10,26 +10,24 @@ use lib.IntN.{ℤ, pos, natAbs, _-ℤ_}
 use lib.ListN.{getD}
 use Rattle.algebra.specs.Lists.{tabulate}
 use Rattle.algebra.specs.Rounding.{roundedUp}
-use Rattle.rows.specs.Systems.{isSystem}
-use Rattle.rows.specs.Editions.{isEdition}
 use Rattle.rows.specs.Setups.{isSetup}
 use Rattle.rows.specs.declared.Setup.{Setup}
-use Rattle.spectrum.specs.Line.{windowAt}
+use Rattle.windows.specs.Window.{windowAt}
 use Rattle.spectrum.specs.Spectrum.{spectrumRefusal, spectrumExit}
-use Rattle.groups.specs.declared.Kind.{Kind}
+use Rattle.spans.specs.declared.Kind.{Kind}
 use Rattle.groups.specs.Group.{groupAnswer, groupRowAnswer}
 use Rattle.observation.specs.declared.Observation.{Observation}
 use Rattle.observation.specs.Calls.{addRowAnswer}
 use Rattle.glitch.specs.Windows.{AcceptedWindow}
 use Rattle.glitch.specs.Claim.{GroupsBounded, SmoothedBounded}
 use Rattle.glitch.proofs.Glitch.{glitch}
-use Rattle.exported_answers.specs.LentWords.{wordsFrom}
+use Rattle.lists.specs.LentWords.{wordsFrom}
 use Rattle.record_words.specs.Parts.{partsFrom}
 use Rattle.record_words.specs.Words.{ofParts, recordOf}
 use Rattle.exported_windows.specs.GroupCalls.{groupCallRefusal, groupCallExit, rowCallRefusal, rowCallExit}
 use Rattle.exported_records.specs.RecordCalls.{addRowCallRefusal, addRowCallExit}
 use Rattle.exported_accuracy.proofs.ExportedGlitch.{exported-glitch}
-use Rattle.worked_numbers.proofs.Figures.{EachSetup}
+use Rattle.worked_numbers.proofs.EachSetup.{EachSetup, each-setup}
 
 -- neither of two values is more than so many units above the other
 abbrev Within : ℕ → ℕ → ℕ → Type 0
@@ -73,10 +71,8 @@ module _
         (apart .one-answered, apart .other-answered, (omega (arith, apart .values .one-le), omega (arith, apart .values .other-le)))
 
     groups-within : (kind : Kind) (order : ℕ) → 1 ≤ order → order ≤ 40 → EachSetup (GroupsWithin kind order)
-    unfolding isSetup isSystem isEdition
     groups-within kind order least most =
-        let at : (setup : Setup) → isSetup setup ≡ true → GroupsWithin kind order setup = λ setup known. groups-known kind setup order known least most in
-        (at _ refl, at _ refl, at _ refl, at _ refl)
+        each-setup (GroupsWithin kind order) λ setup known. groups-known kind setup order known least most
 
     -- any record with a window, and any order
     abbrev SmoothedWithin : Kind → Observation → ℕ → Setup → Type 0
@@ -100,10 +96,8 @@ module _
 
     smoothed-within :
         (kind : Kind) (o : Observation) (order : ℕ) → 1 ≤ o .windows → 1 ≤ order → order ≤ 40 → EachSetup (SmoothedWithin kind o order)
-    unfolding isSetup isSystem isEdition
     smoothed-within kind o order held least most =
-        let at : (setup : Setup) → isSetup setup ≡ true → SmoothedWithin kind o order setup = λ setup known. smoothed-known kind setup o order known held least most in
-        (at _ refl, at _ refl, at _ refl, at _ refl)
+        each-setup (SmoothedWithin kind o order) λ setup known. smoothed-known kind setup o order known held least most
 
     -- ---- the exported calls, after kifsang_spectrum for both windows
 

@@ -1,6 +1,23 @@
--- The theorem over the marked worked numbers.
+-- The theorem over the marked worked numbers; the claims of demand 3 and of card 14 in figures, with their hypotheses and exact quantities; the exported calls in figures, what a refused one leaves, and windows that begin later.
 pub mod Worked
-pub mod Figures
+pub mod EachSetup
+pub mod ExactGroups
+pub mod ExactBooks
+pub mod Hypotheses
+pub mod CalledLists
+pub mod FullLists
+pub mod GroupFigures
+pub mod SmoothedFigures
+pub mod ThreeSecondFigures
+pub mod VerdictFigures
+pub mod WordsFigures
+pub mod ObservedFigures
 pub mod GlitchFigures
 pub mod PanelFigures
-pub mod ExportedCalls
+pub mod Tables
+pub mod WindowCalls
+pub mod RecordCalls
+pub mod LimitCalls
+pub mod TextCalls
+pub mod Refused
+pub mod Starts

@@ -9,20 +9,20 @@ use Rattle.algebra.specs.Largest.{largest}
 use Rattle.algebra.specs.Lists.{tabulate, anyOf}
 use Rattle.algebra.specs.Weighted.{sumOver}
 use Rattle.algebra.proofs.Lists.{tabulate-first, tabulate-same}
-use Rattle.integers.specs.Root.{rootOf}
+use Rattle.square_root.specs.Root.{rootOf}
 use Rattle.refusals.specs.declared.Answer.{Answer}
 use Rattle.rows.specs.Editions.{isEdition}
 use Rattle.rows.specs.Setups.{setupOf, isSetup}
 use Rattle.rows.specs.Systems.{isSystem}
 use Rattle.rows.proofs.Orders.{order-of-place}
-use Rattle.spectrum.specs.Line.{windowAt, linesOf}
-use Rattle.spectrum.specs.Spectrum.{outOfRange}
-use Rattle.groups.specs.declared.Kind.the-variants.{HarmonicGroup}
-use Rattle.groups.specs.Spans.{spanOf, groupedAs, weightsIn, weightsOf, weightedSum}
+use Rattle.windows.specs.Window.{windowAt, outOfRange}
+use Rattle.spectral_lines.specs.Line.{linesOf}
+use Rattle.spans.specs.declared.Kind.the-variants.{HarmonicGroup}
+use Rattle.spans.specs.Spans.{spanOf, groupedAs, weightsIn, weightsOf, weightedSum}
 use Rattle.groups.specs.Group.{valueOver, groupValues}
-use Rattle.groups.specs.Panel.{panelRefusal}
+use Rattle.panel.specs.Panel.{panelRefusal}
 use Rattle.groups.proofs.GroupEditions.{weightsOf-above}
-use Rattle.exported_windows.specs.PanelCall.{panelCallRefusal, panelCallLinesExit, panelCallValuesExit}
+use Rattle.exported_lines.specs.PanelCall.{panelCallRefusal, panelCallLinesExit, panelCallValuesExit}
 use Rattle.worked_numbers.specs.Cases.{pulse}
 use Rattle.worked_numbers.proofs.Worked.{pulse-group}
 

@@ -10,18 +10,18 @@ use Rattle.algebra.specs.Rounding.{nearest}
 use Rattle.algebra.specs.Weighted.{sumOver, Everywhere}
 use Rattle.refusals.specs.Numbers.{noRefusal}
 use Rattle.refusals.specs.Answers.{answer}
-use Rattle.integers.specs.Root.{rootOf}
+use Rattle.square_root.specs.Root.{rootOf}
 use Rattle.sine.specs.ExactSine.{factorial, denominator, term, added, takenAway, quarterSine}
 use Rattle.sine.specs.Wave.{tableEntry}
-use Rattle.spectrum.specs.Line.{lineCount, lineOf, linesOf}
-use Rattle.spectrum.specs.Spectrum.{InRange}
-use Rattle.spectrum.proofs.Lines.{getD-linesOf}
-use Rattle.spectrum.proofs.Pulse as Pulse
-use Rattle.spectrum.proofs.Pulse.{pulse-line}
-use Rattle.groups.specs.Spans.{spanOf, groupedAs, weightsIn, weightsOf, weightedSum}
+use Rattle.spectral_lines.specs.Line.{lineCount, lineOf, linesOf}
+use Rattle.windows.specs.Window.{InRange}
+use Rattle.spectral_lines.proofs.Lines.{getD-linesOf}
+use Rattle.spectral_lines.proofs.Pulse as Pulse
+use Rattle.spectral_lines.proofs.Pulse.{pulse-line}
+use Rattle.spans.specs.Spans.{spanOf, groupedAs, weightsIn, weightsOf, weightedSum}
 use Rattle.groups.proofs.GroupEditions.{weightsOf-above}
-use Rattle.groups.specs.declared.Kind.{Kind}
-use Rattle.groups.specs.declared.Kind.the-variants.{Component, HarmonicGroup, HarmonicSubgroup, InterharmonicGroup, InterharmonicCentredSubgroup}
+use Rattle.spans.specs.declared.Kind.{Kind}
+use Rattle.spans.specs.declared.Kind.the-variants.{Component, HarmonicGroup, HarmonicSubgroup, InterharmonicGroup, InterharmonicCentredSubgroup}
 use Rattle.groups.specs.Group.{valueOver, groupValue, groupAnswer}
 use Rattle.rows.specs.Systems.{isSystem}
 use Rattle.rows.specs.Rows.{firstValues}
@@ -38,8 +38,8 @@ use Rattle.observation.specs.RecordAfter.{recordAfter}
 use Rattle.fractions.specs.Parts.{raised, atMost}
 use Rattle.limits.specs.Letters.{letterOf, isClass, classWith}
 use Rattle.limits.specs.Limit.{ownFigures, figureIn, classALimit, limitOf, overOrder}
-use Rattle.verdict.specs.Limit.{limitInUnits, peakLimitInUnits}
-use Rattle.verdict.specs.Tests.{isWithin, isOver}
+use Rattle.limit_tests.specs.Limit.{limitInUnits, peakLimitInUnits}
+use Rattle.limit_tests.specs.Tests.{isWithin, isOver}
 use Rattle.verdict.specs.Call.{combined, verdictIn, verdictRefusal, verdictAnswer}
 use Rattle.observation.specs.Average.{averageOf, peakOf}
 use Rattle.columns.specs.Text.{bytesOf}

@@ -10,9 +10,10 @@ use lib.ListN.{getD, replicate}
 use Rattle.refusals.specs.Numbers.{noRefusal, notAColumn}
 use Rattle.refusals.specs.Answers.{answer}
 use Rattle.sine.specs.Wave.{tableEntry}
-use Rattle.spectrum.specs.Line.{windowLength, lineCount, linesOf}
-use Rattle.groups.specs.declared.Kind.{Kind}
-use Rattle.groups.specs.declared.Kind.the-variants.{Component, HarmonicGroup, HarmonicSubgroup, InterharmonicGroup, InterharmonicCentredSubgroup}
+use Rattle.windows.specs.Window.{windowLength}
+use Rattle.spectral_lines.specs.Line.{lineCount, linesOf}
+use Rattle.spans.specs.declared.Kind.{Kind}
+use Rattle.spans.specs.declared.Kind.the-variants.{Component, HarmonicGroup, HarmonicSubgroup, InterharmonicGroup, InterharmonicCentredSubgroup}
 use Rattle.groups.specs.Group.{groupAnswer}
 use Rattle.rows.specs.Orders.{orderCount, isOrder}
 use Rattle.rows.specs.Setups.{setupOf}

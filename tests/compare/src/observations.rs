@@ -125,6 +125,9 @@ pub fn compare(tally: &mut Tally, seed: u64) {
     // short comes after it.
     let good = signals::noise(length, 131_071, random.bits()).samples;
     panel::compare_windows(tally, "noise back to back", &good, 0, windows);
+    for start in [77, WINDOW_LENGTH, 4_173] {
+        compare_kinds(tally, &good, start, 2);
+    }
     for window in 0..windows {
         let between = 1 + random.below(WINDOW_LENGTH as u64 - 2) as usize;
         for (place, sample) in [

@@ -147,11 +147,11 @@ pub fn random_row(random: &mut Random, setup: Setup) -> Row {
     Row { setup, values }
 }
 
-/// A record with a random fault or none, to try soundness on.
+/// A record with a random fault or none, to try soundness on; also a sound one that no rows give.
 fn damaged(random: &mut Random, record: &Observation) -> Observation {
     let mut record = record.clone();
     let place = random.below(ORDER_COUNT as u64) as usize;
-    match random.below(14) {
+    match random.below(17) {
         0 => record.setup.system = random.below(14),
         1 => record.windows = 45_000,
         2 => record.windows = 45_001,
@@ -165,7 +165,10 @@ fn damaged(random: &mut Random, record: &Observation) -> Observation {
         10 => record.setup.edition = u64::from(u32::MAX),
         11 => record.windows = random.below(16),
         12 => record.latest[random.below(15) as usize][place] = 1 + random.below(5) as u32,
-        _ => record.setup.edition = (1 << 32) + random.below(2),
+        13 => record.setup.edition = (1 << 32) + random.below(2),
+        14 => record.smoothed[place] = random.below(1 << 32),
+        15 => record.sum[place] = random.below(record.windows * u64::from(u32::MAX) + 1),
+        _ => record.peak[place] = random.below(1 << 32),
     }
     record
 }

@@ -257,6 +257,9 @@ pub fn compare(tally: &mut Tally, seed: u64) {
         usize::MAX - 2047,
     ] {
         compare_spectrum(tally, "a long recording", &long.samples, start, LINE_COUNT);
+        for part in [(0, LINE_LIMIT), (511, 2), (700, 13)] {
+            compare_lines_from(tally, "a long recording", &long.samples, start, part);
+        }
     }
     long.samples[3000] = 131_072;
     for start in [0, 951, 952, 953, 2999, 3000, 3001, 4174, usize::MAX] {

@@ -71,21 +71,21 @@ fn verdict_on(value: u32, order: u64, class_letter: u8) -> Verdict {
 
 #[test]
 fn limit_is_not_divided_before_it_is_compared() {
-    // 2250/39 mA is 57692 and 4/13 units.
-    assert_eq!(verdict_on(57_680, 39, b'A'), Verdict::Within(39));
-    assert_eq!(verdict_on(57_681, 39, b'A'), Verdict::Close(39));
-    assert_eq!(verdict_on(57_704, 39, b'A'), Verdict::Close(39));
-    assert_eq!(verdict_on(57_705, 39, b'A'), Verdict::Over(39));
+    // 2250/19 mA is 118421 and 1/19 units.
+    assert_eq!(verdict_on(118_409, 19, b'A'), Verdict::Within(19));
+    assert_eq!(verdict_on(118_410, 19, b'A'), Verdict::Close(19));
+    assert_eq!(verdict_on(118_433, 19, b'A'), Verdict::Close(19));
+    assert_eq!(verdict_on(118_434, 19, b'A'), Verdict::Over(19));
 }
 
 #[test]
 fn class_b_is_not_150_per_cent_of_whole_units() {
-    // Class A's 2250/35 mA is 64285 and 5/7 units, class B's limit 96428 and 4/7;
-    // 150 % of 64285 would be less by 1 and 1/14.
-    assert_eq!(verdict_on(96_416, 35, b'B'), Verdict::Within(35));
-    assert_eq!(verdict_on(96_417, 35, b'B'), Verdict::Close(35));
-    assert_eq!(verdict_on(96_440, 35, b'B'), Verdict::Close(35));
-    assert_eq!(verdict_on(96_441, 35, b'B'), Verdict::Over(35));
+    // Class A's 2250/17 mA is 132352 and 16/17 units, class B's limit 198529 and 7/17;
+    // 150 % of 132352 would be less by 1 and 7/17.
+    assert_eq!(verdict_on(198_517, 17, b'B'), Verdict::Within(17));
+    assert_eq!(verdict_on(198_518, 17, b'B'), Verdict::Close(17));
+    assert_eq!(verdict_on(198_541, 17, b'B'), Verdict::Close(17));
+    assert_eq!(verdict_on(198_542, 17, b'B'), Verdict::Over(17));
 }
 
 #[test]

@@ -268,6 +268,11 @@ fn soundness_has_each_of_its_parts() {
             assert!(!is_sound(&Observation { setup, ..fresh_record(Setup::edition_2(10)).0 }));
         }
     }
+    // Sound, though no rows give them: nothing but smoothed values, sums or peaks.
+    let zeros = [0; 40];
+    assert!(is_sound(&Observation { sum: zeros, peak: zeros, ..full_record(1) }));
+    assert!(is_sound(&Observation { smoothed: zeros, peak: zeros, ..full_record(1) }));
+    assert!(is_sound(&Observation { smoothed: zeros, sum: zeros, ..full_record(1) }));
     let edits: [fn(&mut Observation); 3] = [
         |record| record.sum[7] += 1,
         |record| record.peak[7] += 1,
@@ -465,11 +470,11 @@ const CLASS_B_EDGES: [Edge; 10] = [
     (16, 1_000_000, 45_000, [7_761_960_000, 7_763_040_000], [258_738, 258_762]),
     // 345/4 mA: 86 and 1/4 units, and 129 and 3/8.
     (32, 1_000, 1, [74, 98], [117, 141]),
-    // 675/7 mA: 96428 and 4/7 units, and 144642 and 6/7.
-    (35, 1_000_000, 7, [674_916, 675_084], [144_630, 144_654]),
-    // 1125/13 mA: 86538 and 6/13 units, and 129807 and 9/13.
-    (39, 1_000_000, 1, [86_526, 86_550], [129_795, 129_819]),
-    (39, 1_000_000, 13, [1_124_844, 1_125_156], [129_795, 129_819]),
+    // 3375/17 mA: 198529 and 7/17 units, and 297794 and 2/17.
+    (17, 1_000_000, 17, [3_374_796, 3_375_204], [297_782, 297_806]),
+    // 3375/19 mA: 177631 and 11/19 units, and 266447 and 7/19.
+    (19, 1_000_000, 1, [177_619, 177_643], [266_435, 266_459]),
+    (19, 1_000_000, 19, [3_374_772, 3_375_228], [266_435, 266_459]),
 ];
 
 #[test]

@@ -23,7 +23,7 @@ use std::path::Path;
 const DOCUMENT: &str = "docs/REFUSALS.md";
 
 /// What a row has and is not tried here: the 9 of `harmlist` needs 800 MB of
-/// input, and stands in tests/harmlist.rs and tests/long. Its 10 and 2 cannot come
+/// input, and stands in tests/harmlist.rs and tests/run. Its 10 and 2 cannot come
 /// together. So its order stands in figures.
 const HARMLIST_LAST: (u8, &str) = (9, "last line of window 45,001");
 const HARMLIST_ORDER: [u8; 6] = [13, 1, 3, 9, 10, 2];

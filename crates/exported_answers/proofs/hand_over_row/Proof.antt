@@ -7,7 +7,7 @@ use Rattle.exported_answers.proofs.hand_over_row.Statement.{statement}
 use Rattle.exported_answers.proofs.hand_over_row.Tie as tie
 
 returns : tie.Need-returns
-returns c = let at-put = c .before .before in (refl, rw (at-put .before .before .if1 .taken) (at-put .put-row .ensures))
+returns c = let at-put = c .before .before in (refl, rw (at-put .before .before .if1 .taken) (at-put .put-numbers .ensures))
 
 returns-2 : tie.Need-returns-2
 returns-2 c = (refl, rw (ne-eqb _ noRefusal (c .if1 .left)))

@@ -1,5 +1,4 @@
 -- `harmlist::read_blocks` meets its contract. The invariant is that the blocks so far were whole; the measure is how many may still come.
-use mathlib.Core.Logic.{inr}
 use borrow.Author.Needs.{needs}
 use Rattle.algebra.proofs.Tests.{or-either, or-left}
 use Rattle.harmlist.proofs.Blocks.{SoFar, begins, blocksLeft, stops, ends-with, next, fewer-left}
@@ -19,7 +18,7 @@ returns : tie.Need-returns Inv-loop μ-loop
 returns c =
     let read = c .before .before .read-block in
     ends-with _ _ (c .before .before .before .before .before .loop .inv) (read .result) (read .ensures)
-    (inr (or-either (read .result .short) (read .result .failed) (c .if2 .taken)))
+    (or-either (read .result .short) (read .result .failed) (c .if2 .taken))
 
 loop-less : tie.Need-loop-less Inv-loop μ-loop
 loop-less c =

@@ -1,5 +1,4 @@
 -- `harmlist::read_input` meets its contract.
-use mathlib.Core.Logic.{inr}
 use borrow.Author.Needs.{needs}
 use Rattle.algebra.proofs.Tests.{or-either, or-left}
 use Rattle.harmlist.proofs.Blocks.{line-ends, text-ends}
@@ -9,7 +8,7 @@ use Rattle.harmlist.proofs.read_input.Tie as tie
 returns : tie.Need-returns
 returns c =
     let line = c .before .before .read-line in
-    line-ends (line .result) (line .ensures) (inr (or-either (line .result .short) (line .result .failed) (c .if1 .taken)))
+    line-ends (line .result) (line .ensures) (or-either (line .result .short) (line .result .failed) (c .if1 .taken))
 
 returns-2 : tie.Need-returns-2
 returns-2 c =

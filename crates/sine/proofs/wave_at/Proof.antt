@@ -18,35 +18,37 @@ below-half c = omega (arith, c .half-wave .ok)
 
 sub-result : tie.Need-sub-result
 sub-result c =
-    let height = c .before .before .half-wave .result in
-    rw (negated w64 height (below-half (c .before .before))) (negated-fits w64 height (below-half (c .before .before)))
+    let height = c .before .half-wave .result in
+    rw (negated w64 height (below-half (c .before))) (negated-fits w64 height (below-half (c .before)))
 
 returns : tie.Need-returns
 returns c =
-    let looked = c .before .before in
-    let a = looked .before .args in
-    let at : a .index % halfTurn ≡ a .index % turn = omega (arith, c .before .turn-index .ensures) in
+    let looked = c .before in
+    let masked = looked .before in
+    let a = masked .before .args in
+    let at : masked .turn-index .result % halfTurn ≡ a .index % turn = omega (arith, masked .turn-index .ensures) in
     toZ-pos w64 (below-half looked)
     ∙ ap pos (looked .half-wave .ensures ∙ ap (overHalf (heightIn (a .quarter .now))) at)
-    ∙ sym (overTurn-first (heightIn (a .quarter .now)) (a .index) (omega arith))
+    ∙ sym (overTurn-first (heightIn (a .quarter .now)) (a .index) (omega (arith, masked .turn-index .ensures)))
 
 returns-2 : tie.Need-returns-2
 returns-2 c =
-    let looked = c .before .before in
-    let a = looked .before .args in
-    let at : a .index % halfTurn ≡ a .index % turn - halfTurn = omega (arith, c .before .turn-index .ensures) in
+    let looked = c .before in
+    let masked = looked .before in
+    let a = masked .before .args in
+    let at : masked .turn-index .result % halfTurn ≡ a .index % turn - halfTurn = omega (arith, masked .turn-index .ensures) in
     toZ-ofZ (sub-result c)
     ∙ negated w64 (looked .half-wave .result) (below-half looked)
     ∙ ap (λ (n : ℕ). negℤ (pos n)) (looked .half-wave .ensures ∙ ap (overHalf (heightIn (a .quarter .now))) at)
-    ∙ sym (overTurn-second (heightIn (a .quarter .now)) (a .index) (omega arith))
+    ∙ sym (overTurn-second (heightIn (a .quarter .now)) (a .index) (omega (arith, masked .turn-index .ensures)))
 
 pub wave-at-spec : {M : Type 1} → statement M
 wave-at-spec =
     tie.close
     (tie.spec
     (λ c κs. search needs)
-    (λ c. record { sfits = below-half c })
     (λ c κs. search needs)
+    (λ c. record { sfits = below-half c })
     sub-result
     returns
     returns-2)

@@ -4,11 +4,13 @@ use mathlib.Core.Path.{_≡_, refl, sym, ap, _∙_}
 use lib.ListN.{length}
 use Rattle.refusals.specs.Numbers.{noRefusal}
 use Rattle.refusals.proofs.Answers.{unlessRefused-accepted, unlessRefused-refused}
-use Rattle.spectrum.specs.Line.{windowAt, linesFrom}
-use Rattle.spectrum.specs.Spectrum.{windowRefusal}
-use Rattle.spectrum.specs.Folding.{heldBy, foldedWindow}
+use Rattle.windows.specs.Window.{windowAt}
+use Rattle.spectral_lines.specs.Line.{linesFrom}
+use Rattle.windows.specs.Checks.{windowRefusal}
+use Rattle.spectral_lines.specs.Folding.{heldBy}
+use Rattle.spectrum.specs.Halving.{foldedWindow}
 use Rattle.spectrum.specs.Prepared.{windowExit}
-use Rattle.spectrum.proofs.Accepted.{Accepted, window-accepted}
+use Rattle.windows.proofs.Accepted.{Accepted, window-accepted}
 use Rattle.spectrum.proofs.answer_lines.Statement.{statement}
 use Rattle.spectrum.proofs.answer_lines.Tie as tie
 

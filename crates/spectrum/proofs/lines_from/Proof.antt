@@ -8,8 +8,9 @@ use Prim.Native.Nat.{ℕ, _+_}
 use lib.Dec.{ltb}
 use lib.IntN.{ℤ}
 use lib.ListN.{length}
-use Rattle.spectrum.specs.Line.{lineLimit}
-use Rattle.spectrum.specs.Spectrum.{windowRefusal, linesFromRefusal, linesFromExit}
+use Rattle.spectral_lines.specs.Line.{lineLimit}
+use Rattle.windows.specs.Checks.{windowRefusal}
+use Rattle.spectral_lines.specs.Calls.{linesFromRefusal, linesFromExit}
 use Rattle.spectrum.specs.Prepared.{windowExit}
 use Rattle.spectrum.proofs.lines_from.Statement.{statement}
 use Rattle.spectrum.proofs.lines_from.Tie as tie

@@ -10,8 +10,9 @@ use lib.Dec.{eqb}
 use lib.IntN.{ℤ}
 use lib.ListN.{length}
 use Rattle.refusals.proofs.Answers.{unlessRefused-same}
-use Rattle.spectrum.specs.Line.{lineCount, linesOf}
-use Rattle.spectrum.specs.Spectrum.{windowRefusal, spectrumRefusal, spectrumExit}
+use Rattle.spectral_lines.specs.Line.{lineCount, linesOf}
+use Rattle.windows.specs.Checks.{windowRefusal}
+use Rattle.spectrum.specs.Spectrum.{spectrumRefusal, spectrumExit}
 use Rattle.spectrum.specs.Prepared.{windowExit}
 use Rattle.spectrum.proofs.Accepted.{accepted}
 use Rattle.spectrum.proofs.spectrum.Statement.{statement}

@@ -1,14 +1,11 @@
 -- `three_seconds::three_second_value` meets its contract: the refusal, or the figure of what is kept in a call that is not refused.
-use mathlib.Core.Path.{_≡_, ap, sym, _∙_}
-use mathlib.Core.Bool.{not}
-use mathlib.Core.List.{_∷_}
+use mathlib.Core.Path.{_≡_, sym, _∙_}
 use Prim.Native.Nat.{ℕ}
 use native.Mathlib.Omega.{arith}
 use borrow.Author.Needs.{needs}
 use borrow.Author.Tests.{ne-eqb}
-use Rattle.refusals.specs.Numbers.{unsoundRecord}
-use Rattle.refusals.specs.Answers.{firstFault}
 use Rattle.observation.specs.declared.Observation.{Observation}
+use Rattle.observation.proofs.SoundFirst.{soundFirst-rest}
 use Rattle.observation.proofs.SoundRecord.{sound-parts}
 use Rattle.three_seconds.specs.ThreeSecond.{askedChecks, threeSecondRefusal, threeSecondAnswer}
 use Rattle.three_seconds.proofs.ThreeSecond.{Accepted, accepted}
@@ -16,18 +13,18 @@ use Rattle.three_seconds.proofs.three_second_value.Statement.{statement
 use Rattle.three_seconds.proofs.three_second_value.Tie as tie
 
 -- the record and the order that the function is handed
-abbrev Handed : tie.After-three-second-refusal → Observation
+abbrev Handed : tie.After-sound-fault-or → Observation
 Handed c = c .before .before .before .before .before .before .before .before .args .t1
 
-abbrev Asked : tie.After-three-second-refusal → ℕ
+abbrev Asked : tie.After-sound-fault-or → ℕ
 Asked c = c .before .before .before .before .before .before .before .before .args .order
 
-refusal-is : (c : tie.After-three-second-refusal) → c .three-second-refusal .result ≡ threeSecondRefusal (Handed c) (Asked c)
+refusal-is : (c : tie.After-sound-fault-or) → c .sound-fault-or .result ≡ threeSecondRefusal (Handed c) (Asked c)
 unfolding threeSecondRefusal
 refusal-is c =
-    c .three-second-refusal .ensures ∙
-    ap (λ sound. firstFault ((not sound, unsoundRecord) ∷ askedChecks (Asked c) (Handed c .windows)))
-    (c .before .is-sound .ensures)
+    soundFirst-rest (Handed c) (askedChecks (Asked c) (Handed c .windows))
+    (c .before .before .before .before .before .before .before .asked-refusal .ensures)
+    (c .sound-fault-or .ensures)
 
 returns : tie.Need-returns
 unfolding threeSecondAnswer

@@ -9,7 +9,8 @@ use Rattle.rows.specs.Orders.{orderCount}
 use Rattle.listing.specs.Listing.{listingText, listingRefusal, listingExit}
 use Rattle.exported_answers.specs.OwnChecks.{wordCountCheck}
 use Rattle.exported_text.specs.ListingCall.{listingCallRefusal, listingCallExit, listingCallCountExit}
-use Rattle.exported_answers.proofs.Handed.{own-refused, received-eq, handed-answer}
+use Rattle.exported_answers.proofs.Handed.{own-refused, handed-answer}
+use Rattle.refusals.proofs.Answers.{received-eq}
 use Rattle.exported_text.proofs.listing_call.kifsang_fill_listing.Statement.{statement}
 use Rattle.exported_text.proofs.listing_call.kifsang_fill_listing.Tie as tie
 

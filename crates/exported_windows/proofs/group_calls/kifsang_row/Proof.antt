@@ -6,7 +6,7 @@ use Rattle.refusals.specs.Numbers.{noRefusal}
 use Rattle.refusals.proofs.Answers.{no-fault}
 use Rattle.rows.specs.Orders.{orderCount}
 use Rattle.rows.specs.Setups.{setupOf}
-use Rattle.exported_answers.proofs.LentWords.{wordsFrom-whole}
+use Rattle.lists.proofs.LentWords.{wordsFrom-whole}
 use Rattle.groups.specs.Group.{groupValues, groupRowAnswer}
 use Rattle.groups.proofs.GroupSum.{groupValues-length, groupRowAnswer-values}
 use Rattle.exported_windows.specs.Kinds.{unknownKind, kindWith, kindCheck}

@@ -1,7 +1,7 @@
 -- `exported_windows::kinds::kind_with` meets its contract: each arm is the kind at its place, and the last that of every other number.
 use mathlib.Core.Path.{_≡_, refl}
 use Prim.Native.Nat.{ℕ, zero, suc}
-use Rattle.groups.specs.declared.Kind.the-variants.{InterharmonicCentredSubgroup}
+use Rattle.spans.specs.declared.Kind.the-variants.{InterharmonicCentredSubgroup}
 use Rattle.exported_windows.specs.Kinds.{kinds, kindWith}
 use Rattle.exported_windows.proofs.kinds.kind_with.Statement.{statement}
 use Rattle.exported_windows.proofs.kinds.kind_with.Tie as tie

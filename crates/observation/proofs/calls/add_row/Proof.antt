@@ -1,31 +1,28 @@
 -- `observation::calls::add_row` meets its contract, by what the refusal and the record with the row are.
-use mathlib.Core.Path.{_≡_, ap, _∙_}
-use mathlib.Core.Bool.{not}
-use mathlib.Core.List.{_∷_}
+use mathlib.Core.Path.{_≡_}
 use borrow.Author.Needs.{needs}
 use borrow.Author.Tests.{ne-eqb}
-use Rattle.refusals.specs.Numbers.{unsoundRecord}
-use Rattle.refusals.specs.Answers.{firstFault}
 use Rattle.rows.specs.declared.Row.{Row}
 use Rattle.observation.specs.declared.Observation.{Observation}
 use Rattle.observation.specs.Calls.{rowChecks, addRowRefusal, addRowAnswer}
+use Rattle.observation.proofs.SoundFirst.{soundFirst-rest}
 use Rattle.observation.proofs.calls.add_row.Statement.{statement}
 use Rattle.observation.proofs.calls.add_row.Tie as tie
 
 -- the record and the row that the function is handed
-abbrev Handed : tie.After-row-refusal → Observation
+abbrev Handed : tie.After-sound-fault-or → Observation
 Handed c = c .before .before .before .before .before .before .before .before .before .args .t1
 
-abbrev RowAdded : tie.After-row-refusal → Row
+abbrev RowAdded : tie.After-sound-fault-or → Row
 RowAdded c = c .before .before .before .before .before .before .before .before .before .args .row
 
-refusal-is : (c : tie.After-row-refusal) → c .row-refusal .result ≡ addRowRefusal (Handed c) (RowAdded c)
+refusal-is : (c : tie.After-sound-fault-or) → c .sound-fault-or .result ≡ addRowRefusal (Handed c) (RowAdded c)
 unfolding addRowRefusal
 refusal-is c =
     let o = Handed c in
-    c .row-refusal .ensures ∙
-    ap (λ sound. firstFault ((not sound, unsoundRecord) ∷ rowChecks (o .setup) (o .windows) (RowAdded c .setup)))
-    (c .before .before .is-sound .ensures)
+    soundFirst-rest o (rowChecks (o .setup) (o .windows) (RowAdded c .setup))
+    (c .before .before .before .before .before .before .before .row-refusal .ensures)
+    (c .sound-fault-or .ensures)
 
 returns : tie.Need-returns
 unfolding addRowAnswer

@@ -9,8 +9,8 @@ use lib.ListN.{getD}
 use Rattle.algebra.specs.Lists.{tabulate}
 use Rattle.algebra.proofs.Filling.{Filled, filled-more, filled-whole}
 use Rattle.observation.specs.Latest.{valuesKept}
-use Rattle.exported_answers.specs.LentWords.{wordsFrom}
-use Rattle.exported_answers.proofs.LentWords.{wordsFrom-length, getD-wordsFrom}
+use Rattle.lists.specs.LentWords.{wordsFrom}
+use Rattle.lists.proofs.LentWords.{wordsFrom-length, getD-wordsFrom}
 use Rattle.record_words.specs.Halves.{halfBase}
 use Rattle.record_words.specs.Words.{latestWords}
 use Rattle.record_words.proofs.Halves.{halfAt, half-even, half-odd, unpacked-places}

@@ -11,8 +11,8 @@ use Rattle.algebra.specs.Lists.{tabulate}
 use Rattle.algebra.proofs.Filling.{Filled, filled-more, filled-whole}
 use Rattle.rows.specs.Orders.{orderCount}
 use Rattle.observation.specs.Latest.{valuesKept}
-use Rattle.exported_answers.specs.LentWords.{wordsFrom}
-use Rattle.exported_answers.proofs.LentWords.{wordsFrom-one}
+use Rattle.lists.specs.LentWords.{wordsFrom}
+use Rattle.lists.proofs.LentWords.{wordsFrom-one}
 use Rattle.record_words.specs.Parts.{partsFrom}
 use Rattle.record_words.specs.Words.{smoothedPlace, recordRead, ofParts}
 use Rattle.record_words.proofs.reading.read_record.Statement.{statement}

@@ -10,7 +10,7 @@ use Rattle.algebra.proofs.Lists.{filled-tabulate}
 use Rattle.refusals.specs.Numbers.{noRefusal}
 use Rattle.refusals.specs.Answers.{firstFault}
 use Rattle.refusals.proofs.Answers.{unlessRefused-accepted, unlessRefused-refused}
-use Rattle.spectrum.specs.Line.{windowLength}
+use Rattle.windows.specs.Window.{windowLength}
 use Rattle.recordings.specs.TextLines.{numberAt}
 use Rattle.recordings.specs.Blocks.{textLinesRefusal, blockChecks, blockRefusal, samplesOf, windowTaken, blockOf}
 use Rattle.recordings.proofs.Samples.{samplesOf-length, samplesOf-in-range}

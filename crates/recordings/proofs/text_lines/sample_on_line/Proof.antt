@@ -7,7 +7,7 @@ use mir.Facts.{toZ-ofZ}
 use mir.Syntax.{w64}
 use Rattle.columns.specs.declared.NumberAnswer.{NumberAnswer}
 use Rattle.columns.specs.Calls.{readingOf}
-use Rattle.spectrum.specs.Spectrum.{outOfRange}
+use Rattle.windows.specs.Window.{outOfRange}
 use Rattle.recordings.specs.TextLines.{textLineAt, textLineNumber}
 use Rattle.recordings.proofs.Samples.{sampleOn-out, sampleOn-in}
 use Rattle.recordings.proofs.text_lines.sample_on_line.Statement.{statement}

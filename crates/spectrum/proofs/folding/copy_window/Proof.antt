@@ -10,7 +10,7 @@ use mir.ValLaws.{toZ-ofZ}
 use Rattle.algebra.specs.Lists.{tabulate}
 use Rattle.algebra.proofs.Filling.{Filled, filled-more, filled-whole}
 use Rattle.algebra.proofs.Lists.{tabulate-whole}
-use Rattle.spectrum.specs.Folding.{heldBy}
+use Rattle.spectral_lines.specs.Folding.{heldBy}
 use Rattle.spectrum.proofs.folding.copy_window.Statement.{statement}
 use Rattle.spectrum.proofs.folding.copy_window.Tie as tie
 

@@ -9,8 +9,8 @@ use lib.ListN.{length, length-set}
 use mir.Syntax.{w32}
 use mir.Val.{toZ, ofZ}
 use mir.ValLaws.{toZ-ofZ}
-use Rattle.spectrum.specs.Folding.{heldBy}
-use Rattle.spectrum.proofs.FoldedPlaces.{Partly, partly-none, partly-more, partly-all}
+use Rattle.spectral_lines.specs.Folding.{heldBy}
+use Rattle.spectrum.proofs.Partly.{Partly, partly-none, partly-more, partly-all}
 use Rattle.spectrum.proofs.folding.fold.Statement.{statement}
 use Rattle.spectrum.proofs.folding.fold.Tie as tie
 

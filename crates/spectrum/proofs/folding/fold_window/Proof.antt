@@ -3,9 +3,10 @@ use mathlib.Core.Path.{_≡_, ap, _∙_}
 use Prim.Native.Nat.{_*_, _^_}
 use native.Mathlib.Omega.{arith}
 use borrow.Author.Needs.{needs}
-use Rattle.spectrum.specs.Spectrum.{largestSample}
-use Rattle.spectrum.specs.Folding.{heldBy, paired, halvedFrom, foldedWindow}
-use Rattle.spectrum.proofs.Bounds.{sample-le}
+use Rattle.windows.specs.Window.{largestSample}
+use Rattle.spectral_lines.specs.Folding.{heldBy, paired}
+use Rattle.spectrum.specs.Halving.{halvedFrom, foldedWindow}
+use Rattle.windows.proofs.Samples.{sample-le}
 use Rattle.spectrum.proofs.FoldedBounds.{bounded-same, paired-bounded}
 use Rattle.spectrum.proofs.folding.fold_window.Statement.{statement}
 use Rattle.spectrum.proofs.folding.fold_window.Tie as tie

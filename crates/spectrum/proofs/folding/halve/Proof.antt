@@ -7,8 +7,9 @@ use borrow.Author.Needs.{needs}
 use lib.IntN.{ℤ}
 use lib.ListN.{length}
 use lib.Pow.{pow-pos}
-use Rattle.spectrum.specs.Spectrum.{largestSample}
-use Rattle.spectrum.specs.Folding.{heldBy, Bounded, largestFolded, folded, halved, halvedFrom}
+use Rattle.windows.specs.Window.{largestSample}
+use Rattle.spectral_lines.specs.Folding.{heldBy, folded}
+use Rattle.spectrum.specs.Halving.{Bounded, largestFolded, halved, halvedFrom}
 use Rattle.spectrum.proofs.FoldedBounds.{bounded-same, folded-bounded, halved-bounded}
 use Rattle.spectrum.proofs.folding.halve.Statement.{statement}
 use Rattle.spectrum.proofs.folding.halve.Tie as tie

@@ -8,7 +8,8 @@ use borrow.Author.Needs.{needs}
 use lib.IntN.{ℤ, _*ℤ_}
 use lib.ListN.{length, take, drop}
 use Rattle.algebra.proofs.SumTo.{sumTo-same}
-use Rattle.spectrum.specs.Folding.{heldBy, placeSum, partSum, cosineOf, EndsAt, sineAhead}
+use Rattle.spectral_lines.specs.Folding.{heldBy, placeSum, cosineOf}
+use Rattle.spectrum.specs.Halving.{partSum, EndsAt, sineAhead}
 use Rattle.spectrum.specs.Prepared.{Prepared, Parts}
 use Rattle.spectrum.proofs.FoldedLines.{ahead, half-le, half-pos, part-length, part-sum, left-fits}
 use Rattle.spectrum.proofs.sums.folded_sums.Statement.{statement}

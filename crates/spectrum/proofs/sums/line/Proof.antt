@@ -4,19 +4,21 @@ use mathlib.Core.Bool.{cond}
 use mathlib.Core.List.{List}
 use mathlib.Core.Path.{_≡_, refl, sym, ap, ap₂, _∙_}
 use Prim.Native.Nat.{ℕ, suc, _+_, _*_, _%_, _^_, _<_}
-use native.Mathlib.Nat.{mul-le-mul, le-of-lt}
+use native.Mathlib.Nat.{mul-le-mul, le-of-lt, add-zero}
 use native.Mathlib.Omega.{arith}
 use lib.Dec.{eqb}
 use lib.IntN.{ℤ, natAbs, negℤ}
 use mir.Syntax.{w64}
 use mir.Val.{toZ, ofZ}
+use Rattle.algebra.specs.Integers.{square}
 use Rattle.algebra.proofs.Signed.{read-as}
 use Rattle.sine.specs.Turn.{turn, quarterTurn}
 use Rattle.sine.specs.Wave.{tableSine, tableCosine}
 use Rattle.sine.proofs.Wave.{tableSine-le, tableCosine-le}
-use Rattle.spectrum.specs.Line.{lineSum, lineOf}
-use Rattle.spectrum.specs.Folding.{heldBy, foldedWindow, placeSum, cosineOf, EndsAt}
-use Rattle.spectrum.proofs.Bounds.{lineSum-le, line-le, squared}
+use Rattle.spectral_lines.specs.Line.{lineSum, lineOf}
+use Rattle.spectral_lines.specs.Folding.{heldBy, placeSum, cosineOf}
+use Rattle.spectrum.specs.Halving.{foldedWindow, EndsAt}
+use Rattle.spectral_lines.proofs.Bounds.{lineSum-le, Rounded, rounded-read}
 use Rattle.spectrum.proofs.FoldedLines.{ahead, half-le, sine-sum-small, cosine-is, sine-is, line-0-sum, line-0-is}
 use Rattle.spectrum.proofs.sums.line.Statement.{statement}
 use Rattle.spectrum.proofs.sums.line.Tie as tie
@@ -46,13 +48,23 @@ module _ (c : tie.After-sum-of-line-0) where
   read-0 : toZ w64 (ofZ w64 sum-0) ≡ sum-0
   read-0 = read-back sum-0 _ source-0-is source-0-small
 
-rounded-square-requires : tie.Need-rounded-square-requires
-rounded-square-requires c κs = rw (read-0 c, source-0-is c) (source-0-small c)
+a-0-is : (c : tie.After-rounded) (window : List ℤ) →
+    heldBy (entry (c .before) .args .folded .now) ≡ foldedWindow window →
+    Rounded tableCosine window 0 (c .rounded .result)
+a-0-is c window is-folded =
+    let sum = c .before in
+    rounded-read tableCosine window 0 _ _ (c .rounded .ensures) (read-0 sum ∙ sum-0-is sum window is-folded)
+    (rw (← sum-0-is sum window is-folded, source-0-is sum) (source-0-small sum))
 
+-- B is 0
 returns : tie.Need-returns
+unfolding square
 returns c window is-folded =
-    let taken = c .before .before in
-    squared tableCosine window 0 (c .rounded-square .result) _ (c .rounded-square .ensures) (read-0 (c .before) ∙ sum-0-is (c .before) window is-folded)
+    let rounded = c .before in
+    let taken = rounded .before .before in
+    c .line-of .ensures
+    ∙ ap (λ z. square z + 0) (a-0-is rounded window is-folded .is)
+    ∙ add-zero _
     ∙ line-0-is window
     ∙ ap (lineOf window) (sym (taken .if1 .taken))
 
@@ -97,21 +109,17 @@ module _ (c : tie.After-folded-sums) where
   ahead-read : toZ w64 (ofZ w64 (c .folded-sums .result .sine)) ≡ aheadSum
   ahead-read = read-back (c .folded-sums .result .sine) aheadSum (c .folded-sums .ensures .1) ahead-small ∙ c .folded-sums .ensures .1
 
-rounded-square-requires-2 : tie.Need-rounded-square-requires-2
-rounded-square-requires-2 c κs = rw (cosine-read (c .before)) (cosine-small (c .before))
-
 mul-signed-sine : tie.Need-mul-signed-sine
 mul-signed-sine c =
-    let sums = c .before .before in
-    let most = mul-le-mul (half-le (k sums) (half sums) (ends sums)) (le-of-lt (start sums .pre .1)) in
+    let most = mul-le-mul (half-le (k c) (half c) (ends c)) (le-of-lt (start c .pre .1)) in
     record { fits = omega (arith, most) }
 
 signed-sine-requires : tie.Need-signed-sine-requires
-signed-sine-requires c κs = rw (ahead-read (c .before .before .before)) (ahead-small (c .before .before .before))
+signed-sine-requires c κs = rw (ahead-read (c .before)) (ahead-small (c .before))
 
 module _ (c : tie.After-signed-sine) where
   abbrev sums : tie.After-folded-sums
-  sums = c .before .before .before .before
+  sums = c .before .before
 
   abbrev sine : ℤ
   sine = c .signed-sine .result
@@ -130,35 +138,44 @@ module _ (c : tie.After-signed-sine) where
   sine-read : toZ w64 (ofZ w64 sine) ≡ sine
   sine-read = read-back sine sine refl sine-small
 
-rounded-square-requires-3 : tie.Need-rounded-square-requires-3
-rounded-square-requires-3 c κs = rw (sine-read c) (sine-small c)
+a-is : (c : tie.After-rounded2) (window : List ℤ) →
+    heldBy (folded (sums (c .before .before))) ≡ foldedWindow window →
+    Rounded tableCosine window (k (sums (c .before .before))) (c .rounded2 .result)
+a-is c window is-folded =
+    let s = sums (c .before .before) in
+    rounded-read tableCosine window (k s) _ _ (c .rounded2 .ensures) (cosine-read s ∙ cosine-sum-is s window is-folded)
+    (rw (← cosine-sum-is s window is-folded) (cosine-small s))
+
+b-is : (c : tie.After-rounded3) (window : List ℤ) →
+    heldBy (folded (sums (c .before .before .before))) ≡ foldedWindow window →
+    Rounded tableSine window (k (sums (c .before .before .before))) (c .rounded3 .result)
+b-is c window is-folded =
+    let signed = c .before .before .before in
+    rounded-read tableSine window (k (sums signed)) _ _ (c .rounded3 .ensures) (sine-read signed ∙ sine-sum-is signed window is-folded)
+    (rw (← sine-sum-is signed window is-folded) (sine-small signed))
 
 returns-2 : tie.Need-returns-2
 unfolding lineOf
 returns-2 c window is-folded =
-    let signed = c .before in
-    let cosine-squared = signed .before .before in
-    ap₂ _+_
-    (squared tableCosine window (k (sums signed)) (cosine-squared .rounded-square2 .result) _ (cosine-squared .rounded-square2 .ensures) (cosine-read (sums signed) ∙ cosine-sum-is (sums signed) window is-folded))
-    (squared tableSine window (k (sums signed)) (c .rounded-square3 .result) _ (c .rounded-square3 .ensures) (sine-read signed ∙ sine-sum-is signed window is-folded))
-
-add-result : tie.Need-add-result
-add-result c =
-    let entry = start (sums (c .before)) in
-    record { fits = rw (returns-2 c (entry .pre .0 .window) (entry .pre .0 .is-folded)) (omega (arith, line-le (entry .pre .0 .window) (entry .pre .0 .in-range) (entry .args .k))) }
+    c .line-of2 .ensures
+    ∙ ap₂ _+_ (ap square (a-is (c .before .before) window is-folded .is)) (ap square (b-is (c .before) window is-folded .is))
 
 pub line-spec : {M : Type 1} → statement M
 line-spec =
     tie.close
     (tie.spec
     (λ c κs. search needs)
-    rounded-square-requires
+    (λ c κs. search needs)
+    (λ c. let e = entry (c .before) in a-0-is c (e .pre .0 .window) (e .pre .0 .is-folded) .fits)
+    (λ c κs. search needs)
     returns
     (λ c κs. search needs)
     (λ c κs. search needs)
-    rounded-square-requires-2
     mul-signed-sine
     signed-sine-requires
-    rounded-square-requires-3
-    add-result
+    (λ c κs. search needs)
+    (λ c. let e = start (sums (c .before .before)) in a-is c (e .pre .0 .window) (e .pre .0 .is-folded) .fits)
+    (λ c κs. search needs)
+    (λ c. let e = start (sums (c .before .before .before)) in b-is c (e .pre .0 .window) (e .pre .0 .is-folded) .fits)
+    (λ c κs. search needs)
     returns-2)

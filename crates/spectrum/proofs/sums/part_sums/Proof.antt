@@ -15,7 +15,8 @@ use Rattle.algebra.specs.Sums.{sumTo}
 use Rattle.sine.specs.Turn.{turn, quarterTurn}
 use Rattle.sine.specs.Wave.{tableCosine, waveList}
 use Rattle.sine.proofs.Wave.{tableCosine-le, waveList-at-mod}
-use Rattle.spectrum.specs.Folding.{heldBy, partSum, cosineOf}
+use Rattle.spectral_lines.specs.Folding.{heldBy, cosineOf}
+use Rattle.spectrum.specs.Halving.{partSum}
 use Rattle.spectrum.specs.Prepared.{SumFits}
 use Rattle.spectrum.proofs.FoldedBounds.{sumFits-le}
 use Rattle.spectrum.proofs.sums.part_sums.Statement.{statement}

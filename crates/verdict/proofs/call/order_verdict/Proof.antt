@@ -1,14 +1,12 @@
 -- `verdict::call::order_verdict` meets its contract: the refusal, or the verdict of a call that is not refused, in the class that its letter names.
-use mathlib.Core.Path.{_≡_, sym, ap, _∙_}
-use mathlib.Core.Bool.{not}
-use mathlib.Core.List.{_∷_}
+use mathlib.Core.Path.{_≡_, sym, _∙_}
 use native.Mathlib.Omega.{arith}
 use borrow.Author.Needs.{needs}
 use borrow.Author.Tests.{ne-eqb}
-use Rattle.refusals.specs.Numbers.{noRefusal, unsoundRecord}
-use Rattle.refusals.specs.Answers.{firstFault}
+use Rattle.refusals.specs.Numbers.{noRefusal}
 use Rattle.observation.specs.declared.Observation.{Observation}
 use Rattle.observation.specs.Average.{averageOf, peakOf}
+use Rattle.observation.proofs.SoundFirst.{soundFirst-rest}
 use Rattle.verdict.specs.declared.Question.{Question}
 use Rattle.verdict.specs.Call.{questionChecks, verdictIn, verdictRefusal, verdictAnswer, refusalNumber}
 use Rattle.verdict.proofs.Verdicts.{Accepted, accepted}
@@ -16,18 +14,18 @@ use Rattle.verdict.proofs.call.order_verdict.Statement.{statement}
 use Rattle.verdict.proofs.call.order_verdict.Tie as tie
 
 -- the record and the question that the function is handed
-abbrev Handed : tie.After-question-refusal → Observation
+abbrev Handed : tie.After-sound-fault-or → Observation
 Handed c = c .before .before .before .before .before .before .before .before .args .t1
 
-abbrev Put : tie.After-question-refusal → Question
+abbrev Put : tie.After-sound-fault-or → Question
 Put c = c .before .before .before .before .before .before .before .before .args .question
 
-refusal-is : (c : tie.After-question-refusal) → c .question-refusal .result ≡ verdictRefusal (Handed c) (Put c)
+refusal-is : (c : tie.After-sound-fault-or) → c .sound-fault-or .result ≡ verdictRefusal (Handed c) (Put c)
 unfolding verdictRefusal
 refusal-is c =
-    c .question-refusal .ensures ∙
-    ap (λ sound. firstFault ((not sound, unsoundRecord) ∷ questionChecks (Handed c .windows) (Put c)))
-    (c .before .is-sound .ensures)
+    soundFirst-rest (Handed c) (questionChecks (Handed c .windows) (Put c))
+    (c .before .before .before .before .before .before .before .question-refusal .ensures)
+    (c .sound-fault-or .ensures)
 
 returns : tie.Need-returns
 unfolding verdictAnswer refusalNumber

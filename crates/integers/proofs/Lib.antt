@@ -1,3 +1,0 @@
--- The theorems of the square root.
-pub mod Root
-mod Newton

@@ -1,2 +1,0 @@
-// Whole numbers: the integer square root.
-pub mod square_root;

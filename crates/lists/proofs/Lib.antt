@@ -1,0 +1,2 @@
+-- The theorems of lists that a caller lends.
+pub mod LentWords

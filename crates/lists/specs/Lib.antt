@@ -1,0 +1,2 @@
+-- Lists that a caller lends.
+pub mod LentWords

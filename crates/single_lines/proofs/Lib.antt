@@ -1,0 +1,2 @@
+-- The theorems of a line by itself.
+pub mod QuarterSums

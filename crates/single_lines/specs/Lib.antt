@@ -1,0 +1,2 @@
+-- A line that is worked by itself.
+pub mod Quarter

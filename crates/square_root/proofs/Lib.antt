@@ -1,0 +1,3 @@
+-- The theorems of the square root.
+pub mod RootLaws
+mod Newton
