@@ -253,7 +253,7 @@ impl<W: Write> Printer<W> {
 /// Windows at the start, the middle and the end of longer recordings. What lies
 /// outside the window is out of range, as it is not to be looked at.
 fn print_windows_in_recordings<W: Write>(printer: &mut Printer<W>, seed: u64) -> Result<()> {
-    for (before, after) in [(1, 0), (1_000, 77), (5, 4_096), (2_048, 2_048), (4_173, 5)] {
+    for (before, after) in [(1, 0), (1_000, 77), (5, 4_096), (2_048, 2_048)] {
         let mut signal = noise(WINDOW_LENGTH, LARGEST_SAMPLE, seed);
         let mut samples = vec![i32::MIN; before];
         samples.append(&mut signal.samples);
@@ -292,20 +292,20 @@ fn print_spectrum_refusals<W: Write>(printer: &mut Printer<W>) -> Result<()> {
 }
 
 /// Parts of the lines of a window: at every edge, refused ones and their order.
-/// The samples before the window are out of range.
+/// The sample before the window is out of range.
 fn print_line_parts<W: Write>(printer: &mut Printer<W>, seed: u64) -> Result<()> {
     let signals = [
-        (1, noise(WINDOW_LENGTH, LARGEST_SAMPLE, seed)),
-        (1_025, noise_of_ends(WINDOW_LENGTH, seed)),
-        (2_048, square_wave(WINDOW_LENGTH, 800.0)),
-        (4_173, tone(WINDOW_LENGTH, 1_023.0, 131_071.0, 0.1)),
-        (77, halfway_window(-1, true)),
+        noise(WINDOW_LENGTH, LARGEST_SAMPLE, seed),
+        noise_of_ends(WINDOW_LENGTH, seed),
+        square_wave(WINDOW_LENGTH, 800.0),
+        tone(WINDOW_LENGTH, 1_023.0, 131_071.0, 0.1),
+        halfway_window(-1, true),
     ];
-    for (before, signal) in signals {
-        let recording = [&vec![i32::MIN; before][..], &signal.samples].concat();
+    for signal in signals {
+        let recording = [&[i32::MIN], &signal.samples[..]].concat();
         printer.comment(&signal.name)?;
         printer.numbers("recording", &recording)?;
-        for start in [before, before - 1, before + 1, usize::MAX] {
+        for start in [1, 0, 2, usize::MAX] {
             for (first, line_count) in [
                 (0, LINE_LIMIT),
                 (0, 0),
@@ -337,8 +337,8 @@ fn print_line_parts<W: Write>(printer: &mut Printer<W>, seed: u64) -> Result<()>
 /// window, recordings that are short, other systems and editions, and the order of
 /// these.
 fn print_observations<W: Write>(printer: &mut Printer<W>, seed: u64) -> Result<()> {
-    let windows = 10;
-    for (system, before) in SYSTEMS.into_iter().zip([5, 4_173]) {
+    let (before, windows) = (5, 10);
+    for system in SYSTEMS {
         let mut recording = vec![i32::MIN; before];
         for signal in appliances(WINDOW_LENGTH, system, seed).into_iter().take(windows) {
             recording.extend(signal.samples);
@@ -461,9 +461,7 @@ fn print_records<W: Write>(
     Ok(())
 }
 
-/// Records of an edition at the edges of soundness and of the count of windows. Those in
-/// which only the smoothed values, the sums or the peaks are not 0 are sound, though no
-/// rows give them.
+/// Records of an edition at the edges of soundness and of the count of windows.
 fn edge_records(edition: u64) -> Vec<Observation> {
     let (fresh, _) = fresh_record(Setup { system: 10, edition });
     let held = |windows: u64| {
@@ -478,10 +476,6 @@ fn edge_records(edition: u64) -> Vec<Observation> {
     for system in [0, 11, 12, 13] {
         records.push(Observation { setup: Setup { system, edition }, ..held(7) });
     }
-    let zeros = [0; ORDER_COUNT];
-    records.push(Observation { sum: zeros, peak: zeros, ..held(7) });
-    records.push(Observation { smoothed: zeros, peak: zeros, ..held(7) });
-    records.push(Observation { smoothed: zeros, sum: zeros, ..held(7) });
     let edits: [fn(&mut Observation); 3] = [
         |record| record.sum[39] += 1,
         |record| record.peak[39] += 1,
@@ -906,6 +900,46 @@ fn print_panel_rows<W: Write>(printer: &mut Printer<W>) -> Result<()> {
     Ok(())
 }
 
+/// Windows that begin later, behind samples that are out of range: all that a call for
+/// windows gives.
+fn print_later_windows<W: Write>(printer: &mut Printer<W>, seed: u64) -> Result<()> {
+    for before in [1_025, 2_048, 4_173] {
+        let Signal { name, samples } = noise_of_ends(WINDOW_LENGTH, seed);
+        let recording = [&vec![i32::MIN; before][..], &samples, &[i32::MAX]].concat();
+        let signal = Signal { name, samples: recording.clone() };
+        printer.spectrum_case(&signal, before, LINE_COUNT)?;
+        for start in [before, before - 1, before + 1] {
+            for (first, line_count) in [(0, LINE_LIMIT), (45, 11), (LINE_LIMIT - 1, 1)] {
+                printer.lines_from_case(&recording, start, first, line_count)?;
+            }
+            for setup in Setup::ALL {
+                for kind in kinds() {
+                    printer.observe_case(&recording, (start, 1), setup, kind)?;
+                }
+            }
+        }
+    }
+    Ok(())
+}
+
+/// Records that are sound though no rows give them: nothing but smoothed values, sums or
+/// peaks.
+fn print_unreached_records<W: Write>(printer: &mut Printer<W>) -> Result<()> {
+    let (zeros, full) = ([0; ORDER_COUNT], [LARGEST_VALUE; ORDER_COUNT]);
+    for setup in Setup::ALL {
+        let held = Observation { windows: 15, ..fresh_record(setup).0 };
+        for [smoothed, sum, peak] in
+            [[full, zeros, zeros], [zeros, full, zeros], [zeros, zeros, full]]
+        {
+            let record = Observation { smoothed, sum, peak, ..held.clone() };
+            printer.record(&record)?;
+            print_edge_verdicts(printer, &record, b'A')?;
+            print_calls_on(printer, &record)?;
+        }
+    }
+    Ok(())
+}
+
 /// Texts that are a column or nearly one.
 fn print_columns<W: Write>(printer: &mut Printer<W>, random: &mut Random) -> Result<()> {
     let texts: [&[u8]; 24] = [
@@ -1020,5 +1054,7 @@ pub fn print_vectors(seed: u64, output: impl Write) -> Result<()> {
     print_edition_a1(printer, random)?;
     print_setups(printer)?;
     print_three_seconds(printer, random, seed)?;
-    print_panel_rows(printer)
+    print_panel_rows(printer)?;
+    print_later_windows(printer, seed)?;
+    print_unreached_records(printer)
 }

@@ -1,6 +1,6 @@
-//! Nothing of before changes. All that stood among the test cases before there was a
-//! panel's row (document 02, card 6) stands there still, in the same order, byte for byte
-//! as it was. Of these lines, all that stood there before a record kept its latest rows
+//! Nothing of before changes. All that stood among the test cases when seven cards had
+//! landed stands there still, in the same order, byte for byte as it was; and of it all
+//! that stood there before there was a panel's row (document 02, card 6). Of these lines, all that stood there before a record kept its latest rows
 //! (card 8) come first; without the words of these rows it is what it was. Of these, all
 //! that stood there before there was an edition is under edition 2 (card 7: the others,
 //! and all under edition 2, "as now"); without the edition it is what it was. "A class A
@@ -20,7 +20,10 @@ struct Digest {
     digest: u64,
 }
 
-/// Of all lines but comments that `reference vectors 1` printed before card 6.
+/// Of all lines but comments that `reference vectors 1` printed when cards 1, 2, 6, 7, 8,
+/// 13 and 14 had landed.
+const SEVEN_CARDS: Digest = Digest { lines: 39_693, digest: 0x3c59_cf65_7a02_bf4c };
+/// Of those that it printed before card 6.
 const WITHOUT_PANEL: Digest = Digest { lines: 38_411, digest: 0x6009_1828_6e26_340e };
 /// Of those that it printed before card 8.
 const WITHOUT_LATEST: Digest = Digest { lines: 28_145, digest: 0xf5ce_c8ae_1b50_87d6 };
@@ -75,18 +78,28 @@ fn without_latest(line: &str) -> String {
     format!("record {LATEST_PLACE} {}", numbers[..LATEST_PLACE].join(" "))
 }
 
-/// The lines of before card 6, which are those of other calls than the panel's row.
-static LINES_WITHOUT_PANEL: LazyLock<Vec<String>> = LazyLock::new(|| {
+/// The lines of when seven cards had landed.
+static LINES: LazyLock<Vec<String>> = LazyLock::new(|| {
     let mut output = Vec::new();
     print_vectors(1, &mut output).unwrap();
     let text = String::from_utf8(output).unwrap();
-    let is_before = |line: &&str| !line.starts_with('#') && word_of(line) != "panel_row";
-    text.lines().filter(is_before).take(WITHOUT_PANEL.lines).map(str::to_string).collect()
+    let is_case = |line: &&str| !line.starts_with('#');
+    text.lines().filter(is_case).take(SEVEN_CARDS.lines).map(str::to_string).collect()
 });
+
+/// Of these the lines of before card 6, which are those of other calls than the panel's row.
+fn lines_without_panel() -> Vec<String> {
+    let is_before = |line: &&String| word_of(line) != "panel_row";
+    LINES.iter().filter(is_before).take(WITHOUT_PANEL.lines).cloned().collect()
+}
 
 /// Of these the lines of before card 8, without the latest rows.
 fn lines_without_latest() -> Vec<String> {
-    LINES_WITHOUT_PANEL.iter().take(WITHOUT_LATEST.lines).map(|line| without_latest(line)).collect()
+    lines_without_panel()
+        .iter()
+        .take(WITHOUT_LATEST.lines)
+        .map(|line| without_latest(line))
+        .collect()
 }
 
 /// Of these the lines of before card 7, without their edition. A line with another
@@ -109,8 +122,13 @@ fn lines_without_edition() -> Vec<String> {
 }
 
 #[test]
+fn with_seven_cards_all_is_as_before() {
+    assert_eq!(digest_of(&LINES), SEVEN_CARDS);
+}
+
+#[test]
 fn but_for_the_panel_all_is_as_before() {
-    assert_eq!(digest_of(&LINES_WITHOUT_PANEL), WITHOUT_PANEL);
+    assert_eq!(digest_of(&lines_without_panel()), WITHOUT_PANEL);
 }
 
 #[test]
