@@ -3,15 +3,14 @@ use mathlib.Core.Path.{_≡_, refl, sym, ap, _∙_}
 use mathlib.Core.Bool.{true, false}
 use mathlib.Core.List.{List}
 use Prim.Native.Nat.{ℕ, _+_, _-_, _^_, _≤_, _<_}
-use native.Mathlib.Nat.{mul-le-mul-right}
-use native.Mathlib.Decide.{ℕ-discrete, decLt}
+use native.Mathlib.Decide.{ℕ-discrete}
 use native.Mathlib.Omega.{arith}
 use lib.Dec.{ltb, lit<}
 use lib.IntN.{ℤ}
-use lib.ListN.{length, getD, replicate, List·getD-eq-default}
-use borrow.Author.Tests.{ltb-false, eqb-true, eq-eqb, ne-eqb, not-false}
+use lib.ListN.{length, getD, replicate}
+use borrow.Author.Tests.{eqb-true, eq-eqb, ne-eqb, not-false}
 use Rattle.algebra.specs.Lists.{tabulate, anyOf}
-use Rattle.algebra.proofs.Lists.{length-tabulate, getD-tabulate, anyOf-none, getD-tabulate-le, tabulate-same}
+use Rattle.algebra.proofs.Lists.{length-tabulate, getD-tabulate, getD-tabulate-le, tabulate-same}
 use Rattle.square_root.proofs.RootLaws.{lt-rootLimit, root-of-largest, root-le-of-le}
 use Rattle.refusals.specs.Numbers.{noRefusal, unknownSystem, unknownEdition, orderOutOfRange, wrongLineCount, lineTooLarge}
 use Rattle.refusals.proofs.Answers.{no-faults, unlessRefused-accepted, unlessRefused-refused}
@@ -27,7 +26,7 @@ use Rattle.spectral_lines.specs.Line.{lineCount, largestLine, linesOf}
 use Rattle.windows.specs.Window.{outOfRange}
 use Rattle.spectral_lines.proofs.Lines.{length-linesOf, no-line-too-large}
 use Rattle.spans.specs.declared.Kind.{Kind}
-use Rattle.spans.specs.Spans.{Weighted, weightsOf, totalTwiceWeight, largestTotal, weightedSum, lineAt}
+use Rattle.spans.specs.Spans.{weightsOf, weightedSum, lineAt}
 use Rattle.groups.specs.Group.{groupChecks, groupRefusal, valueOver, groupValue, groupAnswer, groupValues, groupRowRefusal, groupRowAnswer, windowRow}
 use Rattle.spans.proofs.Weights.{weightsOf-total-le}
 use Rattle.spans.proofs.SumBounds.{weightedSum-lt}

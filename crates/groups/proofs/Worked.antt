@@ -1,6 +1,5 @@
 -- Group values in figures; the edges of the refusal table's row "group value" and of its order,
 -- with the whole answers; and rows of values. Each is a table of rows and one computed theorem over it.
-use mathlib.Core.Bool.{Bool, true, false}
 use mathlib.Core.List.{List, [], _∷_, _++_, map}
 use mathlib.Core.Path.{_≡_, refl}
 use Prim.Native.Nat.{ℕ, _+_, _^_}
@@ -19,8 +18,7 @@ use Rattle.rows.specs.Setups.{setupOf}
 use Rattle.rows.specs.declared.Setup.{Setup}
 use Rattle.spans.specs.declared.Kind.{Kind}
 use Rattle.spans.specs.declared.Kind.the-variants.{Component, HarmonicGroup, HarmonicSubgroup, InterharmonicGroup, InterharmonicCentredSubgroup}
-use Rattle.spans.specs.declared.Span.{Span}
-use Rattle.spans.specs.Spans.{Weighted, spanOf, groupedAs, groupSpan, weightsIn, weightedSum}
+use Rattle.spans.specs.Spans.{spanOf, groupedAs, weightsIn, weightedSum}
 use Rattle.groups.specs.Group.{valueOver, groupValue, groupRefusal, groupAnswer, groupValues, groupRowRefusal, groupRowAnswer}
 
 -- 512 lines of which one is 50 and the others 0

@@ -23,7 +23,7 @@ use Rattle.algebra.specs.Lists.{joined}
 use Rattle.recordings.proofs.WindowAdded.{blockOf-added}
 use Rattle.harmlist_output.proofs.Follows.{follows-definition, readingAfter-append, stops-at-refusal}
 use Rattle.harmlist.specs.declared.Input.{Input}
-use Rattle.harmlist.specs.Input.{BytesRead, LineRead, BlockRead, Cut, AllWhole, Ends, BlocksRead, TextRead}
+use Rattle.harmlist.specs.Input.{BytesRead, LineRead, BlockRead, Cut, AllWhole, BlocksRead, TextRead}
 
 -- ---- the bytes of one read
 

@@ -35,7 +35,7 @@ use Rattle.observation.specs.Soundness.{mostWindows}
 use Rattle.observation.specs.Calls.{freshAnswer}
 use Rattle.observation.specs.RecordAfter.{recordAfter}
 use Rattle.recordings.specs.TextLines.{textLineBytes, textLineCount, textLineAt, textLineNumber, numberOr0, numberAt}
-use Rattle.recordings.specs.InputRefusal.{noSystem, isNone, numberRefusal, textLineRefusal, firstOf, refusalBefore, endRefusal}
+use Rattle.recordings.specs.InputRefusal.{noSystem, isNone, numberRefusal, textLineRefusal, firstOf, refusalBefore}
 use Rattle.recordings.specs.Windows.{systemIn, windowIn, windowCount, rowsIn, recordIn}
 use Rattle.recordings.proofs.FirstOf.{firstOf-same}
 use Rattle.recordings.proofs.Samples.{sample-le}

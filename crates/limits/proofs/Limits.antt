@@ -53,9 +53,6 @@ module _ (order : ℕ) (has-limit : hasLimit order ≡ true) where
   pub limited-le : order ≤ orderCount
   limited-le = leb-range firstLimited order orderCount has-limit .1
 
-  pub limitOrZero-limited : (class : Class) → limitOrZero class order ≡ listedLimit class order
-  limitOrZero-limited class = rw has-limit
-
   -- a test that passes for the orders 0..40 passes for this one
   pub limited-passes : (test : ℕ → Bool) → T (allPass {A = ℕ} (λ h _. test h) (replicate (suc orderCount) 0)) → T (test order)
   limited-passes test passed = pass-below test (suc orderCount) passed order (omega (arith, limited-le))

@@ -5,7 +5,7 @@ use mathlib.Core.Path.{_≡_, refl}
 use Prim.Native.Nat.{ℕ, _+_, _-_, _*_, _<_, max}
 use native.Mathlib.Omega.{arith}
 use borrow.Author.Tests.{ne-eqb}
-use lib.ListN.{getD, replicate}
+use lib.ListN.{getD}
 use Rattle.algebra.specs.Lists.{tabulate, joined, anyOf}
 use Rattle.algebra.specs.Rounding.{nearest}
 use Rattle.algebra.proofs.Lists.{getD-tabulate}

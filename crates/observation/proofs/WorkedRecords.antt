@@ -1,5 +1,5 @@
 -- The records of the worked tables, of this crate and of those above it. They are built here alone, so that a new field of the record is given its worked value in one place.
-use mathlib.Core.List.{List, [], _∷_, _++_, map}
+use mathlib.Core.List.{List, _∷_, _++_, map}
 use Prim.Native.Nat.{ℕ, _-_}
 use lib.ListN.{replicate}
 use Rattle.algebra.specs.Lists.{joined}

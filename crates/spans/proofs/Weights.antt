@@ -7,7 +7,6 @@ use mathlib.Core.List.{List}
 use Prim.Native.Nat.{ℕ, zero, suc, _+_, _-_, _*_, _≤_, _<_}
 use native.Mathlib.Numerals.{add-one}
 use native.Mathlib.Nat.{mul-le-mul, mul-le-mul-left}
-use native.Mathlib.Decide.{decLt}
 use native.Mathlib.Omega.{arith}
 use borrow.Author.Tests.{eq-eqb, ne-eqb}
 use Rattle.algebra.specs.Lists.{tabulate}
@@ -61,12 +60,6 @@ module _ (f : ℕ → ℕ) where
   unfolding linesTotal sumOver tabulate
   linesTotal-suc first count = rw (add-one count, sumOver-append f (tabulate count (λ i. first + i)) _) (omega arith)
 
-  -- one line
-  linesTotal-one : (first : ℕ) → linesTotal f first 1 ≡ f first
-  linesTotal-one first =
-      let here : first + 0 ≡ first = omega arith in
-      omega (arith, rw here at (linesTotal-suc first 0), linesTotal-none first)
-
   -- some lines, and more after them
   pub linesTotal-append : (first some more : ℕ) → linesTotal f first (some + more) ≡ linesTotal f first some + linesTotal f (first + some) more
   linesTotal-append first some zero =
@@ -82,11 +75,6 @@ module _ (f : ℕ → ℕ) where
         rw same at (linesTotal-suc (first + some) more),
         linesTotal-append first some more,
       ))
-
-  -- the ends, and the lines between
-  linesTotal-ends : (first count : ℕ) → linesTotal f first (1 + count + 1) ≡ f first + linesTotal f (first + 1) count + f (first + (1 + count))
-  linesTotal-ends first count =
-      omega (arith, linesTotal-suc first (1 + count), linesTotal-append first 1 count, linesTotal-one first)
 
 -- so many lines from a first on, with any weights
 abbrev linesWith : (ℕ → ℕ) → ℕ → ℕ → List Weighted
@@ -172,15 +160,14 @@ module _ (f : ℕ → ℕ) (span : Span) where
         rw (last-half, whole) at (linesWith-suc f twice (span .first) last),
       ))
 
-  -- so every line counts once, and those between once more, however few there are
-  pub weightedSum-between : span .«half_ends» ≡ true
-      → weightedSum f (weightsIn span) ≡ linesTotal f (span .first) (span .count) + linesTotal f (span .first + 1) (span .count - 2)
+  -- one line or none: each counts once
+  pub weightedSum-few : span .«half_ends» ≡ true → span .count < 2 → weightedSum f (weightsIn span) ≡ linesTotal f (span .first) (span .count)
   unfolding weightsIn
-  weightedSum-between e = by-count (decLt (span .count) 2)
+  weightedSum-few e = few (span .count)
     where
-      few : (count : ℕ) → span .count ≡ count → count < 2 → weightedSum f (linesWith (twiceWeightAt span) (span .first) count) ≡ linesTotal f (span .first) count
-      few zero same below = linesWith-none f (twiceWeightAt span) (span .first) ∙ sym (linesTotal-none f (span .first))
-      few (suc zero) same below =
+      few : (count : ℕ) → count < 2 → weightedSum f (linesWith (twiceWeightAt span) (span .first) count) ≡ linesTotal f (span .first) count
+      few zero below = linesWith-none f (twiceWeightAt span) (span .first) ∙ sym (linesTotal-none f (span .first))
+      few (suc zero) below =
           let first-half : twiceWeightAt span 0 ≡ 1 = rw e in
           omega (
             arith,
@@ -189,21 +176,7 @@ module _ (f : ℕ → ℕ) (span : Span) where
             linesTotal-suc f (span .first) 0,
             linesTotal-none f (span .first),
           )
-      few (suc (suc count)) same below = absurd (omega arith)
-
-      by-count : Dec (span .count < 2) → weightedSum f (weightsIn span) ≡ linesTotal f (span .first) (span .count) + linesTotal f (span .first + 1) (span .count - 2)
-      by-count (yes below) =
-          let none : span .count - 2 ≡ 0 = omega arith in
-          rw none (omega (arith, few (span .count) refl below, linesTotal-none f (span .first + 1)))
-      by-count (no many) =
-          let between = span .count - 2 in
-          let all : 1 + between + 1 ≡ span .count = omega arith in
-          let last : span .count - 1 ≡ 1 + between = omega arith in
-          omega (
-            arith,
-            rw last at (weightedSum-halfEnds e (omega arith)),
-            rw all at (linesTotal-ends f (span .first) between),
-          )
+      few (suc (suc count)) below = absurd (omega arith)
 
   -- any other: every line counts twice
   pub weightedSum-wholeEnds : span .«half_ends» ≡ false → weightedSum f (weightsIn span) ≡ 2 * linesTotal f (span .first) (span .count)

@@ -12,7 +12,7 @@ use Rattle.spans.specs.Spans.{Weighted, spanOf, groupedAs, groupSpan, we
 abbrev span : ℕ → ℕ → Bool → Span
 span first count halfEnds = record { first = first; count = count; «half_ends» = halfEnds }
 
--- order 3 is at line 30 of system 10 and at line 36 of system 12; the first order, and the last, after which there are 11 lines and no more
+-- order 3 is at line 30 of system 10 and at line 36 of system 12; the first order, and the last, whose interharmonic lines are 481..491
 abbrev spans : List (Span × Span)
 spans =
     (spanOf Component 10 3, span 30 1 false) ∷

@@ -26,7 +26,7 @@ pub fn grouped_as(kind: Kind, edition: u32, order: u32) -> Kind
 }
 
 // The first less the second, not below 0.
-pub(crate) fn less(a: usize, b: usize) -> usize
+fn less(a: usize, b: usize) -> usize
     ensures { λ r. ⌜ r ≡ a - b ⌝ }
 {
     if a < b { 0 } else { a - b }

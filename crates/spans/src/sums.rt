@@ -1,6 +1,5 @@
 // The sum over a span of lines.
 use crate::Span;
-use crate::kinds::less;
 use std::num::wrapping_add_u64;
 use windows::lesser;
 ghost use mathlib.Core.Path.{_≡_};
@@ -32,16 +31,32 @@ fn lines_total(lines: &[u64], first: usize, from: usize, to: usize) -> u64
     total_between(lines, lesser(start + lesser(from, room), end), end)
 }
 
-// The sum of 2×w×L over the lines of a span, as far as 64 bits hold it: every line counts once, and one with weight 1 once more.
+// The line at a place, counted from a first line, or 0 past the last.
+fn line_at(lines: &[u64], first: usize, place: usize) -> u64
+    ensures { λ r. ⌜ r ≡ lineAt (now (lines .entry)) (first + place) ⌝ }
+{
+    let start = lesser(first, lines.len());
+    if place < lines.len() - start {
+        lines[start + place]
+    } else {
+        0
+    }
+}
+
+// The sum of 2×w×L over the lines of a span, as far as 64 bits hold it: a line with weight 1 counts twice, and one with weight 1/2 once.
 pub fn span_sum(lines: &[u64], span: Span) -> u64
     ensures { λ r. ⌜ r ≡ weightedSum (lineAt (now (lines .entry))) (weightsIn span) % 2 ^ 64 ⌝ }
 {
     let first = span.first;
     let count = span.count;
-    let all = lines_total(lines, first, 0, count);
-    if span.half_ends {
-        let between = lines_total(lines, first, 1, less(count, 1));
-        return wrapping_add_u64(all, between);
+    if !span.half_ends {
+        let all = lines_total(lines, first, 0, count);
+        return wrapping_add_u64(all, all);
     }
-    wrapping_add_u64(all, all)
+    if count < 2 {
+        return lines_total(lines, first, 0, count);
+    }
+    let between = lines_total(lines, first, 1, count - 1);
+    let ends = wrapping_add_u64(line_at(lines, first, 0), line_at(lines, first, count - 1));
+    wrapping_add_u64(ends, wrapping_add_u64(between, between))
 }

@@ -5,30 +5,26 @@ use mathlib.Core.List.{List}
 use mathlib.Core.Path.{_≡_, ap, _∙_}
 use Prim.Native.Nat.{ℕ, _*_, _^_, _≤_, _<_}
 use native.Mathlib.Nat.{le-trans, mul-le-mul, add-le-add}
-use native.Mathlib.Decide.{decLt}
 use native.Mathlib.Omega.{arith}
-use borrow.Author.Tests.{ltb-false}
-use lib.IntN.{ℤ, pos, natAbs, _*ℤ_}
+use lib.IntN.{ℤ, natAbs, _*ℤ_}
 use mir.Syntax.{w32, w64}
 use mir.Val.{SFits, toZ, ofZ}
-use lib.ListN.{getD, length, List·getD-eq-default}
 use Rattle.algebra.specs.Lists.{anyOf}
 use Rattle.algebra.specs.Rounding.{nearestℤ}
 use Rattle.algebra.proofs.Integer.{natAbs-*ℤ}
-use Rattle.algebra.proofs.Lists.{anyOf-none}
 use Rattle.algebra.proofs.Rounding.{natAbs-nearestℤ-le, nearest-le}
 use Rattle.algebra.proofs.Signed.{sfits-natAbs, cut, cut-fits}
 use Rattle.algebra.proofs.SumTo.{sumTo-natAbs-le}
 use Rattle.sine.specs.Wave.{tableSine, tableCosine, fullScale}
 use Rattle.sine.proofs.Wave.{tableSine-le, tableCosine-le}
 use Rattle.windows.proofs.Samples.{sample-le}
-use Rattle.windows.specs.Window.{windowLength, largestSample, outOfRange}
+use Rattle.windows.specs.Window.{sampleAt, windowLength, largestSample, outOfRange}
 use Rattle.spectral_lines.specs.Line.{lineSum, sumScale, roundedSum, lineOf}
 use Rattle.algebra.specs.Integers.{square}
 
 -- summand j of the sum of line k
 abbrev pub summand : (ℕ → ℤ) → List ℤ → ℕ → ℕ → ℤ
-summand wave window k j = getD window j (pos 0) *ℤ wave (j * k)
+summand wave window k j = sampleAt window j *ℤ wave (j * k)
 
 pub square-le : (x : ℤ) → natAbs x ≤ 2 ^ 29 → square x ≤ 2 ^ 58
 unfolding square

@@ -1,23 +1,18 @@
 -- Folding changes no sum (card 13): the laws of one folding between any two places, over any half length.
 use mathlib.Core.Bool.{Bool, true, false, cond, _||_}
-use mathlib.Core.List.{List, [], _∷_, map}
-use mathlib.Core.Logic.{⊎-elim}
-use mathlib.Core.Path.{_≡_, refl, sym, ap, ap₂, _∙_, fun-ext}
+use mathlib.Core.List.{[], _∷_, map}
+use mathlib.Core.Path.{_≡_, refl, sym, ap, ap₂, _∙_}
 use Prim.Native.Nat.{ℕ, suc, _+_, _-_, _*_, _≤_, _<_}
-use native.Mathlib.Numerals.{add-one}
-use native.Mathlib.Nat.{le-refl, add-zero, add-comm, eq-or-lt-of-le, le-of-suc-le-suc}
-use native.Mathlib.Decide.{decLt}
+use native.Mathlib.Nat.{add-zero}
 use native.Mathlib.Omega.{arith}
 use borrow.Author.Tests.{lt-ltb, le-ltb}
 use lib.Dec.{ltb}
 use lib.IntN.{ℤ, pos, negℤ, _+ℤ_, _-ℤ_, _*ℤ_, +ℤ-comm, +ℤ-idl, *ℤ-zero}
-use lib.ListN.{length, set, length-set}
-use lib.Seq.{getD-set-same, getD-set-other}
 use Rattle.algebra.specs.Sums.{sumTo}
 use Rattle.algebra.proofs.Integer.{+ℤ-*ℤ}
 use Rattle.algebra.proofs.Ring.{variable, _⊕_, _⊖_, _⊗_, ⊝_, ring}
 use Rattle.algebra.proofs.SumTo.{sumTo-same, sumTo-first, sumTo-reversed, sumTo-pairs}
-use Rattle.spectral_lines.specs.Folding.{heldBy, folded, placeSum}
+use Rattle.spectral_lines.specs.Folding.{folded, placeSum}
 
 -- ---- what a place holds
 

@@ -8,7 +8,7 @@ ghost use mathlib.Core.Bool.{false};
 ghost use mathlib.Core.Path.{_≡_};
 ghost use Prim.Native.Nat.{_+_, _≤_};
 ghost use lib.ListN.{length};
-ghost use Rattle.spectral_lines.specs.Line.{lineLimit, linesFrom};
+ghost use Rattle.spectral_lines.specs.Line.{lineLimit};
 ghost use Rattle.windows.specs.Checks.{windowRefusal};
 ghost use Rattle.spectrum.specs.Spectrum.{spectrumRefusal, spectrumExit};
 ghost use Rattle.spectral_lines.specs.Calls.{linesFromRefusal, linesFromExit};

@@ -61,6 +61,13 @@ exact-book-worked :
 unfolding threeRows rowWith third book state bookAfter bookCall bookStep emptyBook smoothedNext mix times divide whole _+ᶠ_ maximum accepts rowChecks sameSetup isSystem isEdition
 exact-book-worked = (refl, refl, refl, refl, refl, refl, refl)
 
+-- after 8944 and 0 the peak is still the first of the two
+exact-peak-worked :
+    let second = bookStep exact (bookStep exact (emptyBook exact) (whole 8944)) (whole 0) in
+    (second .smoothed .num ≡ 62715328) × (second .smoothed .den ≡ 8012) × (second .peak .num ≡ 8944) × (second .peak .den ≡ 1)
+unfolding bookStep emptyBook smoothedNext mix times divide whole _+ᶠ_ maximum
+exact-peak-worked = (refl, refl, refl, refl)
+
 -- the reported book of the first order rounds: 8944, 7828 and 10595
 reported-book-worked : reportedBook threeRows 1 ≡ record { count = 3; smoothed = 10595; sum = 27367; peak = 10595 }
 unfolding threeRows rowWith reportedFrom bookAfter bookCall ownValues bookStep emptyBook smoothedNext smoothedValue nearest accepts rowChecks sameSetup isSystem isEdition

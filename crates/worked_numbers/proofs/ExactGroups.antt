@@ -93,6 +93,19 @@ module _ (samples : List ℤ) (fits : length samples ≤ windowLength) where
   unfolding exactGroup
   front-group kind setup order = front-over (weightsOf kind setup order)
 
+-- the exact square over some lines of any window, in document 01's words: twice each sum over the 2,048 samples, unrounded, and no root taken
+exact-spelled :
+    (xs : List Weighted) (window : List ℤ) →
+    let sum : (ℕ → ℤ) → ℕ → ℤ = λ wave k. pos 2 *ℤ sumTo 2048 (λ j. getD window j (pos 0) *ℤ wave (j * k)) in
+    (exactOver xs window .num ≡ weightedSum (λ k. square (sum exactCosine k) + square (sum exactSine k)) xs) ×
+    (exactOver xs window .den ≡ denominator * denominator)
+unfolding exactOver exactLine exactSum lineSum
+exact-spelled xs window = (refl, refl)
+
+group-spelled : (kind : Kind) (setup : Setup) (order : ℕ) (window : List ℤ) → exactGroup kind setup order window ≡ exactOver (weightsOf kind setup order) window
+unfolding exactGroup
+group-spelled kind setup order window = refl
+
 -- ---- in figures
 
 -- ten million times a fraction, rounded down

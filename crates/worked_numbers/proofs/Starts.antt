@@ -1,7 +1,6 @@
 -- A window that begins later: each call for windows answers and leaves what it does at start 0 for the recording
 -- without the samples before the start, however many they are. In figures: lines, a panel's row and a record of windows
 -- behind 2,048 and 4,173 samples that are out of range.
-use mathlib.Core.Bool.{Bool}
 use mathlib.Core.List.{List, [], _∷_, _++_}
 use mathlib.Core.Path.{_≡_, refl, ap, _∙_}
 use Prim.Native.Nat.{ℕ, zero, suc, _+_, _-_, _*_}

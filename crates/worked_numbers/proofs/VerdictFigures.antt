@@ -1,6 +1,6 @@
 -- What the numbers of the three verdicts say in figures, of every order and class against its limit: of a limit of num/den milliamperes, num × K / (1000 × den) units
 -- and 150 % of that, 3 × num × K / (2000 × den). The claims name their numbers, and a weaker one would be proved as well; here it is refused.
-use mathlib.Core.Path.{_≡_, refl}
+use mathlib.Core.Path.{_≡_, refl, sym}
 use mathlib.Core.Bool.{true}
 use mathlib.Core.List.{List}
 use mathlib.Core.Logic.{_⊎_, inl, inr, ⊎-map}
@@ -80,7 +80,25 @@ class-asked : (order k : ℕ) → (classAsked (asked order 65 k) ≡ A) × (clas
 unfolding classWith letterOf
 class-asked order k = (refl, refl)
 
+-- the letter of a class is 65 or 66
+letter-known : (class : Class) (letter : ℕ) → letterOf class ≡ letter → (letter ≡ 65) ⊎ (letter ≡ 66)
+unfolding letterOf
+letter-known A letter e = inl (sym e)
+letter-known B letter e = inr (sym e)
+
 -- ---- of the library's verdicts, after any list of calls
+
+-- a verdict that is not refused was asked by such a letter
+abbrev LetterNamed : Kind → List Row → Question → Setup → Type 0
+LetterNamed kind rows q setup =
+    let list : CallList = record { setup = setup; rows = rows } in
+    WorkedList kind list → verdictRefusal (after list) q ≡ 0 → (q .letter ≡ 65) ⊎ (q .letter ≡ 66)
+
+letter-named : (kind : Kind) (rows : List Row) (q : Question) → EachSetup (LetterNamed kind rows q)
+letter-named kind rows q =
+    each-setup (LetterNamed kind rows q) λ setup known worked passed.
+    let list : CallList = record { setup = setup; rows = rows } in
+    letter-known (classAsked q) (q .letter) (demand3 .lists kind list known worked .verdicts q passed .named)
 
 abbrev VerdictSays : Kind → List Row → Question → Setup → Type 0
 VerdictSays kind rows q setup =
@@ -129,6 +147,10 @@ abbrev pub EachFigure : (ℕ → ℕ → ℕ → ℕ → Type 0) → Type 0
 EachFigure P = P 65 3 2300 1 × P 66 3 6900 2 × P 65 19 2250 19 × P 66 19 6750 38
 
 module _ (kind : Kind) (list : CallList) (words : List ℕ) (holds : WordsHold kind list words) where
+  -- asked by the letter of a class
+  called-letter-named : (order letter k : ℕ) → verdictCallRefusal words (asked order letter k) ≡ 0 → (letter ≡ 65) ⊎ (letter ≡ 66)
+  called-letter-named order letter k passed = letter-known (classWith letter) letter (holds .verdicts (asked order letter k) passed .named)
+
   -- of every order, in the class that the letter names
   pub called-number-says :
       (order letter k before : ℕ) →

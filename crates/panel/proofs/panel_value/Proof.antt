@@ -1,5 +1,4 @@
 -- `panel::panel_value` meets its contract: the root of the sum over the span, which 64 bits hold.
-use mathlib.Core.Path.{_≡_}
 use native.Mathlib.Nat.{mod-eq-of-lt}
 use borrow.Author.Needs.{needs}
 use Rattle.groups.specs.Group.{valueOver}

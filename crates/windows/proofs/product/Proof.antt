@@ -1,5 +1,5 @@
 -- `windows::product` meets its contract: two numbers of 32 bits have their product in 64.
-use mathlib.Core.Path.{_≡_, _∙_}
+use mathlib.Core.Path.{_∙_}
 use mir.Syntax.{w32, w64}
 use mir.ValLaws.{toZ-ofZ}
 use mir.Facts.{sfits-widen}

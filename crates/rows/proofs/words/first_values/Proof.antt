@@ -1,5 +1,5 @@
 -- `rows::words::first_values` meets its contract: a list of 40 is filled from the first word on.
-use mathlib.Core.Path.{_≡_, _∙_}
+use mathlib.Core.Path.{_∙_}
 use borrow.Author.Needs.{needs}
 use Rattle.rows.proofs.Rows.{firstValues-is}
 use Rattle.rows.proofs.words.first_values.Statement.{statement}

@@ -1,4 +1,4 @@
--- `groups::group::line_refusal` meets its contract: its nest of checks is the definition's list.
+-- `spans::checks::line_refusal` meets its contract: its nest of checks is the definition's list.
 use borrow.Author.Needs.{needs}
 use Rattle.spans.proofs.checks.line_refusal.Statement.{statement}
 use Rattle.spans.proofs.checks.line_refusal.Tie as tie

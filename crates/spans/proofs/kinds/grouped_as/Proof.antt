@@ -1,4 +1,4 @@
--- `groups::spans::grouped_as` meets its contract: the arm of each kind, and of the harmonic group both cases.
+-- `spans::kinds::grouped_as` meets its contract: the arm of each kind, and of the harmonic group both cases.
 use borrow.Author.Needs.{needs}
 use Rattle.spans.specs.Spans.{groupedAs}
 use Rattle.spans.proofs.kinds.grouped_as.Statement.{statement}

@@ -1,5 +1,5 @@
 -- `spans::sums::total_between` meets its contract. The loop's invariant: the sum is that of the lines before `k`. The measure is the count of lines that are left.
-use mathlib.Core.Path.{_≡_, ap, _∙_}
+use mathlib.Core.Path.{_≡_, _∙_}
 use Prim.Native.Nat.{ℕ, _+_, _-_, _%_, _^_, _≤_}
 use native.Mathlib.Nat.{mod-add-mod}
 use native.Mathlib.Omega.{arith}

@@ -1,7 +1,7 @@
 -- `spectrum::sums::accumulate` meets its contract: a sum below 2^62 has room for one product more.
 use mathlib.Core.Path.{_≡_, ap₂, _∙_}
 use borrow.Author.Needs.{needs}
-use lib.IntN.{_+ℤ_, _*ℤ_}
+use lib.IntN.{_*ℤ_}
 use mir.Syntax.{w32, w64}
 use mir.ValLaws.{toZ-ofZ}
 use Rattle.algebra.proofs.Signed.{sum-with-product}
