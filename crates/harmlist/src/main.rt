@@ -5,11 +5,11 @@
 // listing is written after a read that failed.
 //
 // Proved: where no read is taken for failed, it hands `finish` a reading that gives what document 01 says
-// of some bytes, those that came; and it stops reading only where fewer came than were asked for, or
-// where document 01 says the same of these bytes with any more after them (specs/Input.antt). Assumed of
-// `read` is only how many bytes it answers. Tested: that the bytes are the input's, that fewer come at
-// its end alone, that a read which fails is taken for failed, and that the output is written (tests/run,
-// tests/edges).
+// of some bytes, those that came; and it stops reading only where it takes the input for ended (`short`),
+// or where document 01 says the same of these bytes with any more after them (specs/Input.antt). Assumed of
+// `read` is only how many bytes it answers. Tested: that the bytes are the input's, that it is taken for
+// ended at its end alone, also with the most windows, that a read which fails is taken for failed, and that
+// the output is written (tests/run, tests/edges).
 use harmlist_output::finish;
 use libc::EAGAIN;
 use libc::EINTR;
