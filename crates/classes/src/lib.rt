@@ -3,7 +3,7 @@ ghost use Rattle.std.specs.Prelude.{◌≡◌};
 ghost use Rattle.classes.specs.Letters.{is_class, class_with};
 
 // A class of equipment. B are portable tools.
-#[derive(Drop)]
+#[derive(Clone, Copy)]
 pub enum Class {
     A,
     B,

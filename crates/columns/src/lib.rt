@@ -15,7 +15,7 @@ pub const DIGIT_ZERO: u8 = 48;
 pub const NEWLINE: u8 = 10;
 
 // A number that was read, or a refusal's number with 0.
-#[derive(Drop)]
+#[derive(Clone, Copy)]
 pub struct NumberAnswer {
     pub refusal: u32,
     pub value: i64,

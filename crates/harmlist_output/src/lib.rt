@@ -18,11 +18,11 @@ use rows::ORDER_COUNT;
 
 // The refusal at the end: that of the reading, 7 for a reading that no call gave, 10 where no
 // window came.
-fn finish_refusal(reading: Reading) -> u32
-    ensures { result ≡ finish_refusal reading }
+fn finish_refusal(reading: &Reading) -> u32
+    ensures { result ≡ finish_refusal reading.now }
 {
     let refusal = reading.refusal;
-    let observation = reading.observation;
+    let observation = &reading.observation;
     let windows = observation.windows;
     let of_record = sound_fault_or(
         observation.setup,
@@ -80,7 +80,7 @@ pub fn finish(reading: Reading, output: &mut [u8]) -> Answer
             value: 0,
         };
     }
-    let refusal = finish_refusal(reading);
+    let refusal = finish_refusal(&reading);
     if refusal == NO_REFUSAL {
         return put_listing(reading, output);
     }

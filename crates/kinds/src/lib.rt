@@ -6,7 +6,7 @@ ghost use Rattle.kinds.specs.Kinds.{span_of, grouped_as};
 use rows::EDITION_A1;
 
 // The five groupings of document 01.
-#[derive(Drop)]
+#[derive(Clone, Copy)]
 pub enum Kind {
     Component,
     HarmonicGroup,
@@ -16,7 +16,7 @@ pub enum Kind {
 }
 
 // Neighbouring lines, which a group takes with weight 1, or with weight 1/2 at both ends.
-#[derive(Drop)]
+#[derive(Clone, Copy)]
 pub struct Span {
     pub first: usize,
     pub count: usize,

@@ -9,7 +9,7 @@ use fractions::Ratio;
 pub use limit::{class_limit, has_limit};
 
 // What a call for a limit answers: NO_REFUSAL with the limit in milliamperes, or a refusal's number with 0.
-#[derive(Drop)]
+#[derive(Clone, Copy)]
 pub struct LimitAnswer {
     pub refusal: u32,
     pub limit: Ratio,

@@ -6,7 +6,7 @@ use crate::limit::{FIRST_LIMITED, LIMITED_ORDERS};
 
 // A row of the table: an order, and its limit in milliamperes as a numerator and a denominator, in lowest
 // terms.
-#[derive(Drop)]
+#[derive(Clone, Copy)]
 pub struct LimitRow(pub u16, pub u16, pub u16);
 
 // Class A of IEC 61000-3-2. It is printed in amperes, and with one row, 0.15 x 15/n, for the odd orders 15..39

@@ -7,7 +7,7 @@ ghost use Rattle.listing.specs.Put.{Put};
 ghost use Rattle.listing.specs.Listing.{value_width, text_line_length, order_line, left_out, order_text, orders_text, listing_answer, listing_exit};
 
 use crate::LISTING_ROOM;
-use crate::put::put_column;
+use crate::put::{put_column, put_text};
 use columns::NEWLINE;
 use lists::number_at;
 use refusals::{Answer, NO_REFUSAL, WRONG_BUFFER_LENGTH};
@@ -30,7 +30,7 @@ pub fn fill_listing(group: &[u32], subgroup: &[u32], smoothed: &[u32], buffer: &
             value: 0,
         };
     }
-    let start = bytes::copy(b"  h       group    subgroup    smoothed\n", buffer);
+    let start = put_text(buffer, b"  h       group    subgroup    smoothed\n");
     let end = put_orders(buffer, start, group, subgroup, smoothed);
     Answer {
         refusal: NO_REFUSAL,

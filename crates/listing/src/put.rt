@@ -1,5 +1,5 @@
-// A column put into a buffer that holds more.
-ghost use Rattle.std.specs.Prelude.{true, ◌≡◌, ◌+◌, ◌^◌, ◌≤◌, ◌<◌, pos, length};
+// A column, and a text, put into a buffer that holds more.
+ghost use Rattle.std.specs.Prelude.{true, ◌≡◌, ◌+◌, ◌^◌, ◌≤◌, ◌<◌, ◌++◌, drop, pos, length};
 ghost use Rattle.columns.specs.Column.{fits_column, column_text};
 ghost use Rattle.listing.specs.Put.{Put};
 
@@ -16,4 +16,14 @@ pub(crate) fn put_column(buffer: &mut [u8], at: usize, width: usize, number: u64
     let end = at + width;
     fill_column(&mut buffer[at..end], number as i64);
     end
+}
+
+// Copies a text to the front of a buffer, and answers the place after it.
+pub(crate) fn put_text(buffer: &mut [u8], text: &[u8]) -> usize
+    requires { length text.now ≤ length buffer.old }
+    ensures value { result ≡ length text.now }
+    ensures copied { buffer.new ≡ text.now ++ drop (length text.now) buffer.old }
+{
+    buffer[..text.len()].copy_from_slice(text);
+    text.len()
 }

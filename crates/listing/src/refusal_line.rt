@@ -4,7 +4,7 @@ ghost use Rattle.columns.specs.Column.{fits_column};
 ghost use Rattle.listing.specs.RefusalLine.{refusal_width, refusal_line_length, refusal_line, refusal_line_refusal, refusal_line_exit};
 
 use crate::REFUSAL_LINE_LENGTH;
-use crate::put::put_column;
+use crate::put::{put_column, put_text};
 use column_writing::fits_column;
 use columns::NEWLINE;
 use refusals::{NO_REFUSAL, NOT_A_COLUMN, WRONG_BUFFER_LENGTH, fault_or};
@@ -38,7 +38,7 @@ fn put_refusal_line(buffer: &mut [u8], refusal: u32)
     requires refusal_value { fits_column refusal_width (pos refusal) ≡ true }
     ensures { buffer.new ≡ refusal_line refusal }
 {
-    let at = bytes::copy(b"refused", buffer);
+    let at = put_text(buffer, b"refused");
     let end = put_column(buffer, at, REFUSAL_WIDTH, refusal as u64);
     buffer[end] = NEWLINE;
 }

@@ -9,7 +9,7 @@ ghost use Rattle.observation.specs.OrderBook.{book_of};
 use books::smoothed_value;
 
 // The reported book of one order.
-#[derive(Drop)]
+#[derive(Clone, Copy)]
 pub(crate) struct OrderBook {
     pub(crate) count: u32,
     pub(crate) smoothed: u64,

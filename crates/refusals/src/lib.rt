@@ -43,7 +43,7 @@ pub const UNKNOWN_EDITION: u32 = 19;
 pub const TOO_FEW_WINDOWS: u32 = 20;
 
 // What a public call answers: NO_REFUSAL with the value, or a refusal's number with 0.
-#[derive(Drop)]
+#[derive(Clone, Copy)]
 pub struct Answer {
     pub refusal: u32,
     pub value: u64,

@@ -16,7 +16,7 @@ pub use words::first_values;
 pub const LARGEST_VALUE: u64 = 4294967295;
 
 // What a row and a record are made under: the system and the edition. Any numbers may stand in it.
-#[derive(Drop)]
+#[derive(Clone, Copy)]
 pub struct Setup {
     pub system: u32,
     pub edition: u32,

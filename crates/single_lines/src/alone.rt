@@ -30,7 +30,7 @@ fn crossed(odd: bool, a: i32, b: i32) -> i32
 }
 
 // The samples of a pair, added and taken from each other.
-#[derive(Drop)]
+#[derive(Clone, Copy)]
 struct Pair {
     sum: i32,
     difference: i32,
@@ -70,7 +70,7 @@ fn cosine_at(quarter: &[u32; QUARTER_TURN + 1], index: usize) -> i32
 }
 
 // The numbers that the waves at one place are multiplied by.
-#[derive(Drop)]
+#[derive(Clone, Copy)]
 struct Numbers {
     cosine: i32,
     sine: i32,

@@ -15,7 +15,7 @@ pub const LINE_LIMIT: usize = 1024;
 const SUM_SHIFT: i64 = 28;
 
 // Both sums of a line.
-#[derive(Drop)]
+#[derive(Clone, Copy)]
 pub struct Sums {
     pub cosine: i64,
     pub sine: i64,

@@ -5,7 +5,7 @@ pub use call::order_verdict;
 
 // What is asked: a harmonic order, the letter of a class, and the units per ampere, K, in which the record
 // counts.
-#[derive(Drop)]
+#[derive(Clone, Copy)]
 pub struct Question {
     pub order: u32,
     pub letter: u8,
@@ -13,7 +13,7 @@ pub struct Question {
 }
 
 // Document 01's three cases, each with its order.
-#[derive(Drop)]
+#[derive(Clone, Copy)]
 pub enum Verdict {
     Within(u32),
     Close(u32),
@@ -21,7 +21,7 @@ pub enum Verdict {
 }
 
 // A verdict, or the number of the refusal alone.
-#[derive(Drop)]
+#[derive(Clone, Copy)]
 pub enum VerdictAnswer {
     Given(Verdict),
     Refused(u32),
