@@ -1,0 +1,6 @@
+-- `limit_tests::tests::is_within` meets its contract.
+use Rattle.fractions.proofs.Parts.{raised-none}
+use Rattle.limit_tests.proofs.tests.is_within.Goals as goal
+
+pub returns : goal.returns
+returns c = rw (c.is_at_most.ensures, raised-none)

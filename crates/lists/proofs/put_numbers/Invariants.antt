@@ -1,0 +1,13 @@
+-- `lists::put_numbers` meets its contract. The loop's invariant: the list is filled up to `i` with the numbers.
+-- The measure is the count of places that are left.
+use mathlib.Core.Path.{◌≡◌}
+use Prim.Native.Nat.{◌+◌, ◌-◌, ◌≤◌}
+use lib.ListN.{length, get_or}
+use Rattle.algebra.proofs.Filling.{Filled}
+use Rattle.lists.proofs.put_numbers.Given as goal
+
+abbrev pub invariant-loop-i : goal.invariant-loop-i
+invariant-loop-i l = (l.i ≤ length l.initial.to) × (length l.to ≡ length l.initial.to) × Filled l.i (λ k. get_or l.numbers (0 + k) 0) l.initial.to l.to
+
+abbrev pub decreases-loop-i : goal.decreases-loop-i
+decreases-loop-i l = length l.initial.to - l.i
