@@ -9,11 +9,11 @@ use Rattle.columns.specs.Column.{fits_column, column_text}
 use Rattle.columns.proofs.Writings.{at_end-column, at_end-length}
 use Rattle.column_writing.proofs.fill_column.Goals as goal
 
-fits : (b : Bool) (c : tie.After-fits-column) → c.fits-column.result ≡ b
+fits : (b : Bool) (c : tie.After-fits-column) → c.fits_column.result ≡ b
     → fits_column (length c.before.before.args.buffer.now) c.before.before.args.number ≡ b
 fits b c e =
     let start = c.before.before in
-    sym (ap (fits_column (length start.args.buffer.now)) (to_z-of_z start.ranges.number)) ∙ sym c.fits-column.ensures ∙ e
+    sym (ap (fits_column (length start.args.buffer.now)) (to_z-of_z start.ranges.number)) ∙ sym c.fits_column.ensures ∙ e
 
 pub returns-then-not-fits_column : goal.returns-then-not-fits_column
 returns-then-not-fits_column c = let wide = fits false c (not-true _ c.if-not-fits_column.true) in

@@ -32,10 +32,10 @@ overflow_sub-at c = omega (arith, ap length (text-is c), (digits-put c).place, c
 
 pub bounds-buffer-at : goal.bounds-buffer-at
 bounds-buffer-at c = let put = digits-put c in
-    omega (arith, at_end-length put, put.place, sub_at c)
+    omega (arith, at_end-length put, put.place, overflow_sub-at c)
 
 pub returns-then-number-lt0 : goal.returns-then-number-lt0
-returns-then-number-lt0 c = rw (text-is c) (at_end-more (digits-put c) minus (sub_at c))
+returns-then-number-lt0 c = rw (text-is c) (at_end-more (digits-put c) minus (overflow_sub-at c))
 
 pub shape_of-buffer-then-number-lt0 : goal.shape_of-buffer-then-number-lt0
 shape_of-buffer-then-number-lt0 c = at_end-length (returns c)

@@ -24,8 +24,8 @@ unfolding observe_call_refusal observe_call_exit observe_answer
 returns c = let a = c.args in
     let passed = sym c.own_refusal-own.ensures ∙ c.if-own-ne-NO_REFUSAL.false in
     let counted = (no-fault (kind_check a.kind).0 unknown_kind _ (omega arith) passed).1 in
-    let answered : c.observe-answer.result ≡ observe_answer (kind_with a.kind) (setup_of a.system a.edition) a.recording.now a.start a.windows =
-    rw (← c.kind_with.ensures) c.observe-answer.ensures in
+    let answered : c.observe_answer.result ≡ observe_answer (kind_with a.kind) (setup_of a.system a.edition) a.recording.now a.start a.windows =
+    rw (← c.kind_with.ensures) c.observe_answer.ensures in
     let all = rw passed
     (handed-record
     (λ (x : Observation). x)

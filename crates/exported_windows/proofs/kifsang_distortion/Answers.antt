@@ -22,7 +22,7 @@ returns c = let a = c.args in
     (handed-answer
     (distortion_answer a.values.now).refusal
     (distortion_of a.values.now)
-    a.parts-per-thousand.now
+    a.parts_per_thousand.now
     _
     _
     _

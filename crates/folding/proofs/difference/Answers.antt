@@ -15,4 +15,4 @@ overflow_sub-result c = let a = c.args.a in
     (sfits-nat_abs w32 (a -ℤ b) (omega (arith, nat_abs-+ℤ-le a (neg_ℤ b), nat_abs-negℤ b, c.requires.a_bound, c.requires.b_bound)))
 
 pub returns : goal.returns
-returns c = to_z-of_z w32 _ (sub-result c) ∙ ap₂ ◌-ℤ◌ (to_z-of_z w32 c.args.a c.ranges.a) (to_z-of_z w32 c.args.b c.ranges.b)
+returns c = to_z-of_z w32 _ (overflow_sub-result c) ∙ ap₂ ◌-ℤ◌ (to_z-of_z w32 c.args.a c.ranges.a) (to_z-of_z w32 c.args.b c.ranges.b)

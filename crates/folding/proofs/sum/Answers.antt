@@ -14,4 +14,4 @@ overflow_add-result c = let a = c.args.a in
     rw (to_z-of_z w32 a c.ranges.a, to_z-of_z w32 b c.ranges.b) (sfits-nat_abs w32 (a +ℤ b) (omega (arith, nat_abs-+ℤ-le a b, c.requires.a_bound, c.requires.b_bound)))
 
 pub returns : goal.returns
-returns c = to_z-of_z w32 _ (add-result c) ∙ ap₂ ◌+ℤ◌ (to_z-of_z w32 c.args.a c.ranges.a) (to_z-of_z w32 c.args.b c.ranges.b)
+returns c = to_z-of_z w32 _ (overflow_add-result c) ∙ ap₂ ◌+ℤ◌ (to_z-of_z w32 c.args.a c.ranges.a) (to_z-of_z w32 c.args.b c.ranges.b)

@@ -21,4 +21,4 @@ pub returns : goal.returns
 unfolding words_from
 returns c = let a = c.args in
     let end : c.loop-i.i ≡ length a.to.now = omega arith in
-    filled-whole (length a.to.now) _ a.to.now _ (rw end c c.loop-i.invariant.2) refl
+    filled-whole (length a.to.now) _ a.to.now _ (rw end at c.loop-i.invariant.2) refl

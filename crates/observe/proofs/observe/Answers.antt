@@ -44,84 +44,66 @@ pub loop-i-init : goal.loop-i-init
 unfolding calls_after
 loop-i-init c = (omega arith, omega arith, c.if-answer-ne-NO_REFUSAL.false, sym c.fresh_record-answer.ensures)
 
--- what the calls for so many windows come to
-abbrev Calls : (c : goal.After-refused_record) → ℕ → RecordAnswer
-Calls c n =
-    let a = c.args in
-    calls_after a.kind a.setup a.recording.now a.start n
-
 -- the calls for one window more are those of the turn
 turn : (c : goal.After-refused_record) → let found = c.row_at-found.result in
     let o = c.loop-i.answer.observation in
-    Calls c (suc c.loop-i.i)
+    Calls at (suc c.loop-i.i)
     ≡ unless_refused found.refusal (add_row_answer o found.row) (record { refusal = found.refusal; observation = o })
 turn c =
-    let a = c.args in
+    let a = (Entry at).args in
     let none = ap (λ (r : RecordAnswer). r.refusal) c.loop-i.invariant.3 ∙ c.loop-i.invariant.2 in
-    rw (c.loop-i.invariant.3, ← c.loop-i.invariant.1, ← c.row_at-found.ensures) c
+    rw (c.loop-i.invariant.3, ← c.loop-i.invariant.1, ← c.row_at-found.ensures) at
     (calls-next a.kind a.setup a.recording.now a.start c.loop-i.i none)
 
 pub returns-then-found-ne-NO_REFUSAL : goal.returns-then-found-ne-NO_REFUSAL
 returns-then-found-ne-NO_REFUSAL c = c.refused_record.ensures ∙
     refused-turn c _ c.if-found-ne-NO_REFUSAL.true (rw (turn c, ne_eqb _ no_refusal c.if-found-ne-NO_REFUSAL.true))
 
--- what the calls for so many windows come to
-abbrev Calls-2 : (c : goal.After-refused_record-then-answer-ne-NO_REFUSAL-2) → ℕ → RecordAnswer
-Calls-2 c n =
-    let a = c.args in
-    calls_after a.kind a.setup a.recording.now a.start n
-
 -- the calls for one window more are those of the turn
 turn-2 : (c : goal.After-refused_record-then-answer-ne-NO_REFUSAL-2) → let found = c.row_at-found.result in
     let o = c.loop-i.answer.observation in
-    Calls-2 c (suc c.loop-i.i)
+    Calls at (suc c.loop-i.i)
     ≡ unless_refused found.refusal (add_row_answer o found.row) (record { refusal = found.refusal; observation = o })
 turn-2 c =
-    let a = c.args in
+    let a = (Entry at).args in
     let none = ap (λ (r : RecordAnswer). r.refusal) c.loop-i.invariant.3 ∙ c.loop-i.invariant.2 in
-    rw (c.loop-i.invariant.3, ← c.loop-i.invariant.1, ← c.row_at-found.ensures) c
+    rw (c.loop-i.invariant.3, ← c.loop-i.invariant.1, ← c.row_at-found.ensures) at
     (calls-next a.kind a.setup a.recording.now a.start c.loop-i.i none)
 
 -- the turn's row is added
-added : (c : goal.After-refused_record-then-answer-ne-NO_REFUSAL-2) → Calls-2 c (suc c.loop-i.i) ≡ c.add_row-answer.result
-added c = rw c.if-found-ne-NO_REFUSAL.false at (turn-2 c) ∙ sym c.add_row-answer.ensures
+added : (c : goal.After-refused_record-then-answer-ne-NO_REFUSAL-2) → Calls at (suc c.loop-i.i) ≡ c.add_row_answer.result
+added c = rw c.if-found-ne-NO_REFUSAL.false at (turn-2 c) ∙ sym c.add_row_answer.ensures
 
 pub returns-then-answer-ne-NO_REFUSAL-2 : goal.returns-then-answer-ne-NO_REFUSAL-2
 returns-then-answer-ne-NO_REFUSAL-2 c = c.refused_record-then-answer-ne-NO_REFUSAL-2.ensures ∙
     refused-turn c _ c.if-answer-ne-NO_REFUSAL-2.true (ap (λ (r : RecordAnswer). r.refusal) (added c))
 
--- what the calls for so many windows come to
-abbrev Calls-3 : (c : goal.Else-answer-ne-NO_REFUSAL-2) → ℕ → RecordAnswer
-Calls-3 c n =
-    let a = c.args in
-    calls_after a.kind a.setup a.recording.now a.start n
-
 -- the calls for one window more are those of the turn
 turn-3 : (c : goal.Else-answer-ne-NO_REFUSAL-2) → let found = c.row_at-found.result in
     let o = c.loop-i.answer.observation in
-    Calls-3 c (suc c.loop-i.i)
+    Calls at (suc c.loop-i.i)
     ≡ unless_refused found.refusal (add_row_answer o found.row) (record { refusal = found.refusal; observation = o })
 turn-3 c =
-    let a = c.args in
+    let a = (Entry at).args in
     let none = ap (λ (r : RecordAnswer). r.refusal) c.loop-i.invariant.3 ∙ c.loop-i.invariant.2 in
-    rw (c.loop-i.invariant.3, ← c.loop-i.invariant.1, ← c.row_at-found.ensures) c
+    rw (c.loop-i.invariant.3, ← c.loop-i.invariant.1, ← c.row_at-found.ensures) at
     (calls-next a.kind a.setup a.recording.now a.start c.loop-i.i none)
 
 -- the turn's row is added
-added-2 : (c : goal.Else-answer-ne-NO_REFUSAL-2) → Calls-3 c (suc c.loop-i.i) ≡ c.add_row-answer.result
-added-2 c = rw c.if-found-ne-NO_REFUSAL.false at (turn-3 c) ∙ sym c.add_row-answer.ensures
+added-2 : (c : goal.Else-answer-ne-NO_REFUSAL-2) → Calls at (suc c.loop-i.i) ≡ c.add_row_answer.result
+added-2 c = rw c.if-found-ne-NO_REFUSAL.false at (turn-3 c) ∙ sym c.add_row_answer.ensures
 
 pub overflow_add-at : goal.overflow_add-at
-overflow_add-at c = let a = c.args in
+overflow_add-at c = let a = (Entry at).args in
     let i = c.loop-i.i in
     let follows = calls-follow a.kind a.setup a.recording.now a.start (suc i) in
-    let none : (Calls-3 c (suc i)).refusal ≡ no_refusal = rw (added-2 c) c.if-answer-ne-NO_REFUSAL-2.false in
+    let none : (Calls at (suc i)).refusal ≡ no_refusal = rw (added-2 c) c.if-answer-ne-NO_REFUSAL-2.false in
     omega (arith, window-inside a.setup a.recording.now a.start i (sym follows.refusal_is ∙ none))
 
 pub loop-i-preserved : goal.loop-i-preserved
 loop-i-preserved c = (omega arith, omega arith, c.if-answer-ne-NO_REFUSAL-2.false, rw (add-one c.loop-i.i) (added-2 c))
 
 pub returns : goal.returns
-returns c = let a = c.args in
+returns c = let a = (Entry at).args in
     let all : c.loop-i.i ≡ a.windows = omega arith in
-    sym (observe_answer-accepted a.kind a.setup a.recording.now a.start a.windows c.loop-i.answer (rw all c c.loop-i.invariant.3) c.loop-i.invariant.2)
+    sym (observe_answer-accepted a.kind a.setup a.recording.now a.start a.windows c.loop-i.answer (rw all at c.loop-i.invariant.3) c.loop-i.invariant.2)

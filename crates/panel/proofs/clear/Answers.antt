@@ -18,4 +18,4 @@ loop-place-preserved c = (omega arith, search rules, filled_more _ _ _ _ c.loop-
 pub returns : goal.returns
 returns c = let lines = c.args.lines.now in
     let end : c.loop-place.place ≡ length lines = omega arith in
-    filled-whole (length lines) (λ k. 0) lines _ (rw end c c.loop-place.invariant.2) refl ∙ tabulate-same (length lines) (λ k. 0) 0 (λ k below. refl)
+    filled-whole (length lines) (λ k. 0) lines _ (rw end at c.loop-place.invariant.2) refl ∙ tabulate-same (length lines) (λ k. 0) 0 (λ k below. refl)

@@ -31,7 +31,7 @@ returns-then-at-lt-HALF_TURN c = let a = c.args in
 pub returns-else-at-lt-HALF_TURN : goal.returns-else-at-lt-HALF_TURN
 returns-else-at-lt-HALF_TURN c = let a = c.args in
     let at : c.turn_index-at.result % half_turn ≡ a.index % turn - half_turn = omega (arith, c.turn_index-at.ensures) in
-    to_z-of_z (sub-result c)
+    to_z-of_z (overflow_sub-result c)
     ∙ negated w64 c.half_wave-height.result (below_half c)
     ∙ ap (λ (n : ℕ). neg_ℤ (pos n)) (c.half_wave-height.ensures ∙ ap (over_half (height_in a.quarter.now)) at)
     ∙ sym (over_turn-second (height_in a.quarter.now) a.index (omega (arith, c.turn_index-at.ensures)))

@@ -19,4 +19,4 @@ pub returns : goal.returns
 unfolding lines_from
 returns c = let lines = c.args.lines.now in
     let end : c.loop-i.i ≡ length lines = omega arith in
-    filled-whole (length lines) _ lines _ (rw end c c.loop-i.invariant.2) refl
+    filled-whole (length lines) _ lines _ (rw end at c.loop-i.invariant.2) refl

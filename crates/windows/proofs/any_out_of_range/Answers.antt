@@ -40,4 +40,4 @@ loop-j-preserved c = (
 pub returns : goal.returns
 returns c = let w = c.args.window.now in
     let at-end : c.loop-j.j ≡ length w = omega arith in
-    sym (none_left c.loop-j.found w) ∙ rw at-end c c.loop-j.invariant.1
+    sym (none_left c.loop-j.found w) ∙ rw at-end at c.loop-j.invariant.1

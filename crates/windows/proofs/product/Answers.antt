@@ -17,4 +17,4 @@ overflow_mul-result c = simp (widened c.args.a c.ranges.a, widened c.args.b c.ra
     (product-fits c.args.a c.args.b c.ranges.a c.ranges.b)
 
 pub returns : goal.returns
-returns c = to_z-of_z w64 _ (mul-result c) ∙ simp (widened c.args.a c.ranges.a, widened c.args.b c.ranges.b)
+returns c = to_z-of_z w64 _ (overflow_mul-result c) ∙ simp (widened c.args.a c.ranges.a, widened c.args.b c.ranges.b)

@@ -40,9 +40,9 @@ returns c = let words = c.args.words.now in
     rw (
       inv.1,
       inv.2,
-      filled-whole order_count _ zeros _ (rw end c inv.4) refl,
-      filled-whole order_count _ zeros _ (rw end c inv.5) refl,
-      filled-whole order_count _ zeros _ (rw end c inv.6) refl,
+      filled-whole order_count _ zeros _ (rw end at inv.4) refl,
+      filled-whole order_count _ zeros _ (rw end at inv.5) refl,
+      filled-whole order_count _ zeros _ (rw end at inv.6) refl,
       c.fill_halves.ensures,
       c.count_at.ensures,
       c.count_at-2.ensures,

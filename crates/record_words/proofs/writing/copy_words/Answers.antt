@@ -19,5 +19,5 @@ loop-i-preserved c = let inside : c.loop-i.i < length c.args.to.now = omega arit
 pub returns : goal.returns
 returns c = let a = c.args in
     let end : c.loop-i.i ≡ length a.to.now = omega arith in
-    filled-whole (length a.to.now) _ a.to.now _ (rw end c c.loop-i.invariant.2) refl ∙
+    filled-whole (length a.to.now) _ a.to.now _ (rw end at c.loop-i.invariant.2) refl ∙
     tabulate-whole 0 a.from.now (length a.to.now) c.requires

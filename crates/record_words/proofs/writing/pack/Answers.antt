@@ -59,4 +59,4 @@ pub returns : goal.returns
 returns c = let words = c.args.words.now in
     let end : c.loop-k.k ≡ length words = omega arith in
     rw (packed-places c.args.values.now (length words) c.requires)
-    (filled-whole (length words) _ words _ (rw end c c.loop-k.invariant.2) refl)
+    (filled-whole (length words) _ words _ (rw end at c.loop-k.invariant.2) refl)

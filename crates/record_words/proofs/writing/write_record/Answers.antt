@@ -13,7 +13,7 @@ shape_of-words c = search rules
 
 pub returns : goal.returns
 returns c = let words = c.put_halves.new.words in
-    sym (take_all record_words words (omega (arith, same_length c, c.requires))) ∙
+    sym (take_all record_words words (omega (arith, shape_of-words c, c.requires))) ∙
     rw (
       c.put_halves.ensures,
       c.put_part-4.ensures,

@@ -23,7 +23,12 @@ returns-then-reading-block c = rw c.if-reading-block.true
 pub read_samples-first-requires : goal.read_samples-first-requires
 read_samples-first-requires c = let all = rw c.block_lines.ensures (block_lines-fit c.args.block.now) in record { count_in_bounds = all.0; count_in_bounds_2 = all.1 }
 
-refusal_is : (c : goal.Then-refusal-ne-NO_REFUSAL) → c.fault_or-refusal.result ≡ block_refusal c.args.block.now
+pub returns-then-refusal-ne-NO_REFUSAL : goal.returns-then-refusal-ne-NO_REFUSAL
+unfolding block_of
+returns-then-refusal-ne-NO_REFUSAL c = rw (c.if-reading-block.false, refusal_is at)
+    (sym (unless_refused-refused (block_refusal (start at).args.block.now) _ _ (λ e. c.if-refusal-ne-NO_REFUSAL.true (refusal_is at ∙ e))))
+
+refusal_is : (c : goal.After-samples-3-1) → c.fault_or-refusal.result ≡ block_refusal c.args.block.now
 unfolding block_refusal
 refusal_is c =
     let block = c.args.block.now in
@@ -32,23 +37,9 @@ refusal_is c =
     ∙ ap (λ (rest : ℕ). cond (not (eqb c.read_samples-first.result no_refusal)) c.read_samples-first.result rest) c.fault_or.ensures
     ∙ ap (λ (refusal : ℕ). first_fault (block_checks refusal block)) first
 
-pub returns-then-refusal-ne-NO_REFUSAL : goal.returns-then-refusal-ne-NO_REFUSAL
-unfolding block_of
-returns-then-refusal-ne-NO_REFUSAL c = rw (c.if-reading-block.false, refusal_is c)
-    (sym (unless_refused-refused (block_refusal c.args.block.now) _ _ (λ e. c.if-refusal-ne-NO_REFUSAL.true (refusal_is c ∙ e))))
-
-refusal_is-2 : (c : goal.After-samples-3-1) → c.fault_or-refusal.result ≡ block_refusal c.args.block.now
-unfolding block_refusal
-refusal_is-2 c =
-    let block = c.args.block.now in
-    let first = c.read_samples-first.ensures.refusal_is ∙ ap (text_lines_refusal block) c.block_lines.ensures in
-    c.fault_or-refusal.ensures
-    ∙ ap (λ (rest : ℕ). cond (not (eqb c.read_samples-first.result no_refusal)) c.read_samples-first.result rest) c.fault_or.ensures
-    ∙ ap (λ (refusal : ℕ). first_fault (block_checks refusal block)) first
-
 -- a block that is not refused: the samples read are the block's
 accepted : (c : goal.After-samples-3-1) → block_refusal c.args.block.now ≡ no_refusal
-accepted c = sym (refusal_is-2 c) ∙ c.if-refusal-ne-NO_REFUSAL.false
+accepted c = sym (refusal_is c) ∙ c.if-refusal-ne-NO_REFUSAL.false
 
 samples-are : (c : goal.After-samples-3-1) → c.read_samples-first.new.samples ≡ samples_of c.args.block.now
 unfolding samples_of
@@ -66,9 +57,9 @@ take_window-requires c = let block = c.args.block.now in
     rw (samples-are c)
     (record { samples_len = samples_of-length block; samples_value = samples_of-in-range block (rw (block_lines-whole block passed.1) at passed.0) })
 
-refusal_is-3 : (c : goal.After-take_window) → c.fault_or-refusal.result ≡ block_refusal c.args.block.now
+refusal_is-2 : (c : goal.After-take_window) → c.fault_or-refusal.result ≡ block_refusal c.args.block.now
 unfolding block_refusal
-refusal_is-3 c =
+refusal_is-2 c =
     let block = c.args.block.now in
     let first = c.read_samples-first.ensures.refusal_is ∙ ap (text_lines_refusal block) c.block_lines.ensures in
     c.fault_or-refusal.ensures
@@ -77,7 +68,7 @@ refusal_is-3 c =
 
 -- a block that is not refused: the samples read are the block's
 accepted-2 : (c : goal.After-take_window) → block_refusal c.args.block.now ≡ no_refusal
-accepted-2 c = sym (refusal_is-3 c) ∙ c.if-refusal-ne-NO_REFUSAL.false
+accepted-2 c = sym (refusal_is-2 c) ∙ c.if-refusal-ne-NO_REFUSAL.false
 
 samples-are-2 : (c : goal.After-take_window) → c.read_samples-first.new.samples ≡ samples_of c.args.block.now
 unfolding samples_of
@@ -92,6 +83,6 @@ samples-are-2 c =
 pub returns : goal.returns
 unfolding block_of
 returns c = c.take_window.ensures
-    ∙ ap (window_taken c.args.reading) (samples-are-2 c)
+    ∙ ap (window_taken (start at).args.reading) (samples-are-2 c)
     ∙ rw c.if-reading-block.false
-    (sym (unless_refused-accepted (block_refusal c.args.block.now) _ _ (accepted-2 c)))
+    (sym (unless_refused-accepted (block_refusal (start at).args.block.now) _ _ (accepted-2 c)))

@@ -34,4 +34,4 @@ pub returns : goal.returns
 unfolding none_above any_of
 returns c = let a = c.args in
     let end : length a.latest.now ≤ c.loop-place.place = omega arith in
-    ap not (rw (drop_of_length-le a.latest.now {i = c.loop-place.place} end) c c.loop-place.invariant)
+    ap not (rw (drop_of_length-le a.latest.now {i = c.loop-place.place} end) at c.loop-place.invariant)

@@ -13,5 +13,5 @@ pub overflow_add-result : goal.overflow_add-result
 overflow_add-result c = (sum-with-product _ _ c.args.sum _ _ c.fits.number c.fits.wave c.requires (to_z-of_z w64 _ c.fits.sum) (is-product c)).fits
 
 pub returns : goal.returns
-returns c = to_z-of_z w64 _ (add-result c)
+returns c = to_z-of_z w64 _ (overflow_add-result c)
     ∙ (sum-with-product _ _ c.args.sum _ _ c.fits.number c.fits.wave c.requires (to_z-of_z w64 _ c.fits.sum) (is-product c)).is

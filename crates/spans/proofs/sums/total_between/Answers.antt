@@ -22,4 +22,4 @@ loop-k-preserved c = (omega arith, omega arith, c.wrapping_add_u64-sum.ensures â
 
 pub returns : goal.returns
 returns c = let all : c.loop-k.k â‰¡ c.args.end = omega arith in
-    rw all c c.loop-k.invariant.2
+    rw all at c.loop-k.invariant.2

@@ -55,13 +55,13 @@ loop-i-init c = (omega arith, refl, refl)
 pub accumulate-cosine-requires : goal.accumulate-cosine-requires
 accumulate-cosine-requires c = let a = c.args in
     let p = c.requires.parts in
-    rw c.loop-i.invariant.1 (sum-small a.cosine-part.now a.first a.k c.loop-i.i p.some c.loop-i.invariant.0 p.cosine-fits)
+    rw c.loop-i.invariant.1 (sum-small a.cosine_part.now a.first a.k c.loop-i.i p.some c.loop-i.invariant.0 p.cosine-fits)
 
 pub accumulate-sine-requires : goal.accumulate-sine-requires
 accumulate-sine-requires c = let a = c.args in
     let p = c.requires.parts in
     rw c.loop-i.invariant.2
-    (sum-small a.sine-part.now a.first a.k c.loop-i.i (rw p.same_length p.some) (rw p.same_length c.loop-i.invariant.0) p.sine-fits)
+    (sum-small a.sine_part.now a.first a.k c.loop-i.i (rw p.same_length p.some) (rw p.same_length c.loop-i.invariant.0) p.sine-fits)
 
 pub loop-i-preserved : goal.loop-i-preserved
 loop-i-preserved c = let index = c.turn_index.result in
@@ -69,12 +69,12 @@ loop-i-preserved c = let index = c.turn_index.result in
       omega arith,
       to_z-of_z w64 _ (record { sfits = c.accumulate-cosine.type_inv })
           ∙ c.accumulate-cosine.ensures
-          ∙ sum_step a.cosine-part.now a.wave.now a.k a.first c.loop-i.i index _ _ _ c.requires.parts.one-turn c.turn_index.ensures c.loop-i.invariant.1
+          ∙ sum_step a.cosine_part.now a.wave.now a.k a.first c.loop-i.i index _ _ _ c.requires.parts.one-turn c.turn_index.ensures c.loop-i.invariant.1
           (to_z-of_z w32 _ (record { sfits = c.accumulate-arg-1.given }))
           (to_z-of_z w32 _ (record { sfits = c.factor-1.given })),
       to_z-of_z w64 _ (record { sfits = c.accumulate-sine.type_inv })
           ∙ c.accumulate-sine.ensures
-          ∙ sum_step a.sine-part.now a.wave.now a.k a.first c.loop-i.i index _ _ _ c.requires.parts.one-turn c.turn_index.ensures c.loop-i.invariant.2
+          ∙ sum_step a.sine_part.now a.wave.now a.k a.first c.loop-i.i index _ _ _ c.requires.parts.one-turn c.turn_index.ensures c.loop-i.invariant.2
           (to_z-of_z w32 _ (record { sfits = c.accumulate-arg-in-loop-i-1.given }))
           (to_z-of_z w32 _ (record { sfits = c.factor-1.given })),
     )
@@ -82,8 +82,8 @@ loop-i-preserved c = let index = c.turn_index.result in
 pub returns : goal.returns
 unfolding part_sum
 returns c = let a = c.args in
-    let all : c.loop-i.i ≡ length a.cosine-part.now = omega arith in
-    record { cosine_value = rw all c c.loop-i.invariant.1; sine_value = rw (all ∙ sym c.requires.parts.same_length) c c.loop-i.invariant.2 }
+    let all : c.loop-i.i ≡ length a.cosine_part.now = omega arith in
+    record { cosine_value = rw all at c.loop-i.invariant.1; sine_value = rw (all ∙ sym c.requires.parts.same_length) at c.loop-i.invariant.2 }
 
 index-small : (c : goal.In-loop-i) → (c.args.first + c.loop-i.i) * c.args.k ≤ 1025 * 1024
 index-small c =

@@ -28,4 +28,4 @@ returns-then-turn_index-eq-QUARTER_TURN c = let quarter : eqb (c.args.angle % tu
 
 pub returns-else-turn_index-eq-QUARTER_TURN : goal.returns-else-turn_index-eq-QUARTER_TURN
 returns-else-turn_index-eq-QUARTER_TURN c = let other : eqb (c.args.angle % turn) quarter_turn ≡ false = ne_eqb _ _ (λ e. c.if-turn_index-eq-QUARTER_TURN.false (c.turn_index.ensures ∙ e)) in
-    rw other (to_z-of_z w64 _ (sub-result c) ∙ negative c)
+    rw other (to_z-of_z w64 _ (overflow_sub-result c) ∙ negative c)
