@@ -38,7 +38,7 @@ row-of-checks recording start wrong_count window out first second third w o t s 
 
 pub returns : goal.returns
 returns c = let a = c.args in
-    row-of-checks a.recording.now a.start a.wrong-count c.window_at-window.result.now c.any_out_of_range.result
+    row-of-checks a.recording.now a.start a.wrong_count c.window_at-window.result.now c.any_out_of_range.result
     c.fault_or-3.result
     c.fault_or-2.result
     c.fault_or.result
