@@ -7,23 +7,23 @@ use Rattle.kinds.proofs.span_of.Goals as goal
 
 pub returns-in-Component : goal.returns-in-Component
 unfolding span_of
-returns-in-Component c = rw c.enum_told-1.given.1
+returns-in-Component c = rw c.in-Component.is
 
 pub returns-in-HarmonicGroup : goal.returns-in-HarmonicGroup
 unfolding span_of
-returns-in-HarmonicGroup c = rw (c.enum_told-in-HarmonicGroup-1.given.1, c.less.ensures)
+returns-in-HarmonicGroup c = rw (c.in-HarmonicGroup.is, c.less.ensures)
 
 pub returns-in-HarmonicSubgroup : goal.returns-in-HarmonicSubgroup
 unfolding span_of
-returns-in-HarmonicSubgroup c = rw (c.enum_told-in-HarmonicSubgroup-1.given.1, c.less-in-HarmonicSubgroup.ensures)
+returns-in-HarmonicSubgroup c = rw (c.in-HarmonicSubgroup.is, c.less-in-HarmonicSubgroup.ensures)
 
 pub returns-in-InterharmonicGroup : goal.returns-in-InterharmonicGroup
 unfolding span_of
-returns-in-InterharmonicGroup c = rw (c.enum_told-in-InterharmonicGroup-1.given.1, c.less-in-InterharmonicGroup.ensures)
+returns-in-InterharmonicGroup c = rw (c.in-InterharmonicGroup.is, c.less-in-InterharmonicGroup.ensures)
 
 pub returns-in-InterharmonicCentredSubgroup : goal.returns-in-InterharmonicCentredSubgroup
 unfolding span_of
-returns-in-InterharmonicCentredSubgroup c = rw (c.enum_told-in-InterharmonicCentredSubgroup-1.given.1, c.less-in-InterharmonicCentredSubgroup.ensures)
+returns-in-InterharmonicCentredSubgroup c = rw (c.in-InterharmonicCentredSubgroup.is, c.less-in-InterharmonicCentredSubgroup.ensures)
 
 centre-lt : (a b : ℕ) → a < 2 ^ 32 → b < 2 ^ 32 → a * b + 2 < 2 ^ 64
 centre-lt a b f g =
