@@ -10,7 +10,6 @@ use borrow.Author.Tests.{eq-eqb, ne_eqb, ltb-true, ltb-false}
 use lib.Dec.{eqb, ltb}
 use lib.ListN.{length, take, drop, take-append-drop, length-drop}
 use lib.Seq.{length-take-le}
-use Rattle.io.specs.Counts.{IsPrefixLen}
 use Rattle.refusals.specs.Numbers.{no_refusal}
 use Rattle.records.specs.Soundness.{most_windows}
 use Rattle.recordings.specs.declared.Reading.{Reading}
@@ -23,9 +22,13 @@ use Rattle.algebra.specs.Lists.{joined}
 use Rattle.recordings.proofs.WindowAdded.{block_of-added}
 use Rattle.harmlist_output.proofs.Follows.{follows-definition, reading_after-append, stops-at-refusal}
 use Rattle.harmlist.specs.declared.Input.{Input}
-use Rattle.harmlist.specs.Input.{BytesRead, LineRead, BlockRead, Cut, AllWhole, BlocksRead, TextRead}
+use Rattle.harmlist.specs.Input.{IsPrefixLen, BytesRead, LineRead, BlockRead, Cut, AllWhole, BlocksRead, TextRead}
 
 -- ---- the bytes of one read
+
+-- a count that lies in the buffer is that of its front
+pub prefix_len-of_le : (n : ℕ) (buffer : List ℕ) → n ≤ length buffer → IsPrefixLen n buffer
+prefix_len-of_le n buffer within = (within, sym (length-take-le n buffer within))
 
 -- the front of a buffer is what was read
 pub bytes_read :

@@ -1,5 +1,5 @@
 -- What harmlist's reading of its input answers. No contract of the system's read says which bytes come, so they are some bytes here; what they are read as is defined.
-use Rattle.std.specs.Prelude.{true, false, List, [], ◌∷◌, ◌++◌, ◌⊎◌, ◌≡◌, ℕ, ◌≤◌, ltb, length}
+use Rattle.std.specs.Prelude.{true, false, List, [], ◌∷◌, ◌++◌, ◌⊎◌, ◌≡◌, ℕ, ◌≤◌, ltb, length, take}
 use Rattle.refusals.specs.Numbers.{no_refusal}
 use Rattle.recordings.specs.declared.Reading.{Reading}
 use Rattle.recordings.specs.TextLines.{text_line_bytes}
@@ -8,6 +8,10 @@ use Rattle.recordings.specs.Blocks.{window_bytes, begin_of, block_of}
 use Rattle.harmlist_output.specs.Ending.{output_of}
 use Rattle.harmlist_output.specs.Follows.{WholeButLast, reading_after}
 use Rattle.harmlist.specs.declared.Input.{Input}
+
+-- a count of bytes that lie at the front of a buffer
+abbrev pub IsPrefixLen : ℕ → List ℕ → Type 0
+IsPrefixLen n buffer = (n ≤ length buffer) × (n ≡ length (take n buffer))
 
 -- so many bytes were read, or fewer, and what they are read as
 pub record BytesRead (most : ℕ) (read_as : List ℕ → Reading) (input : Input) : Type 0 where

@@ -10,15 +10,18 @@
 // `read` is only how many bytes it answers. Tested: that the bytes are the input's, that it is taken for
 // ended at its end alone, also with the most windows, that a read which fails is taken for failed, and that
 // the output is written (tests/run, tests/edges).
+#![tactic(auto)]
+
 ghost use Rattle.std.specs.Prelude.{false, ◌≡◌, ◌≤◌, length};
-ghost use Rattle.io.specs.Counts.{IsPrefixLen};
-ghost use Rattle.harmlist.specs.Input.{LineRead, BlockRead, BlocksRead, TextRead};
+ghost use Rattle.harmlist.specs.Input.{IsPrefixLen, LineRead, BlockRead, BlocksRead, TextRead};
 
 use harmlist_output::finish;
-use libc::{EAGAIN, EINTR, STDERR_FILENO, STDIN_FILENO, STDOUT_FILENO};
 use listing::LISTING_ROOM;
 use recordings::{LINE_BYTES, Reading, WINDOW_BYTES, begin, take_block};
 use refusals::NO_REFUSAL;
+use std::env::{Env, FillError};
+use std::io;
+use std::io::{ErrorKind, Read, Stdin, Write};
 
 // How often a read is tried in a row without a byte: some seconds. Yielding the processor between
 // two tries would take as long as the others run, and so hours on a machine with much to do.
@@ -40,30 +43,41 @@ struct Input {
     failed: bool,
 }
 
+// Standard input, and why its last read that failed did.
+#[derive(Drop)]
+struct Source {
+    stdin: Stdin,
+    error: Option<io::Error>,
+}
+
 // Whether a read that failed may be tried again: a signal came, or a pipe that does not block has
 // nothing yet.
-fn is_passing(error: i32) -> bool {
-    (error == EINTR) | (error == EAGAIN)
+fn is_passing(kind: ErrorKind) -> bool {
+    (kind == ErrorKind::Interrupted) | (kind == ErrorKind::WouldBlock)
 }
 
 // Reads what is there to the start of the buffer: no byte at the end of the input.
-fn read_some(buffer: &mut [u8]) -> Bytes
+fn read_some(source: &mut Source, buffer: &mut [u8]) -> Bytes
     ensures { result.count ≤ length buffer.old }
 {
     let mut tries = 0;
     while tries < MOST_TRIES {
-        let got = libc::read(STDIN_FILENO, buffer);
-        if got >= 0 {
-            return Bytes {
-                count: io::count(got, buffer),
-                failed: false,
-            };
-        }
-        if !is_passing(os::errno()) {
-            return Bytes {
-                count: 0,
-                failed: true,
-            };
+        match source.stdin.read(buffer) {
+            Ok(count) => {
+                return Bytes {
+                    count,
+                    failed: false,
+                };
+            }
+            Err(error) => {
+                source.error = Some(error);
+                if !is_passing(error.kind()) {
+                    return Bytes {
+                        count: 0,
+                        failed: true,
+                    };
+                }
+            }
         }
         tries += 1;
     }
@@ -74,12 +88,12 @@ fn read_some(buffer: &mut [u8]) -> Bytes
 }
 
 // Reads until the buffer is full, the input ends or a read fails.
-fn read_full(buffer: &mut [u8]) -> Bytes
+fn read_full(source: &mut Source, buffer: &mut [u8]) -> Bytes
     ensures { IsPrefixLen result.count buffer.new }
 {
     let mut count = 0;
     while count < buffer.len() {
-        let more = read_some(&mut buffer[count..]);
+        let more = read_some(source, &mut buffer[count..]);
         if more.count == 0 {
             return Bytes {
                 count,
@@ -95,11 +109,11 @@ fn read_full(buffer: &mut [u8]) -> Bytes
 }
 
 // Reads the first line.
-fn read_line() -> Input
+fn read_line(source: &mut Source) -> Input
     ensures { LineRead result }
 {
     let mut line = [0u8; LINE_BYTES];
-    let bytes = read_full(&mut line);
+    let bytes = read_full(source, &mut line);
     let count = bytes.count;
     let reading = begin(&line[..count]);
     Input {
@@ -110,11 +124,11 @@ fn read_line() -> Input
 }
 
 // Reads one window's lines.
-fn read_block(before: Reading) -> Input
+fn read_block(source: &mut Source, before: Reading) -> Input
     ensures { BlockRead before result }
 {
     let mut block = [0u8; WINDOW_BYTES];
-    let bytes = read_full(&mut block);
+    let bytes = read_full(source, &mut block);
     let count = bytes.count;
     let reading = take_block(before, &block[..count]);
     Input {
@@ -125,12 +139,12 @@ fn read_block(before: Reading) -> Input
 }
 
 // Reads blocks until the first refusal, the first that is short, or a read that fails.
-fn read_blocks(first: Reading) -> Input
+fn read_blocks(source: &mut Source, first: Reading) -> Input
     ensures { BlocksRead first result }
 {
     let mut reading = first;
     while reading.refusal == NO_REFUSAL {
-        let input = read_block(reading);
+        let input = read_block(source, reading);
         if input.short | input.failed {
             return input;
         }
@@ -144,42 +158,64 @@ fn read_blocks(first: Reading) -> Input
 }
 
 // Reads the input as far as it matters.
-fn read_input() -> Input
+fn read_input(source: &mut Source) -> Input
     ensures { TextRead result }
 {
-    let line = read_line();
+    let line = read_line(source);
     if line.short | line.failed {
         return line;
     }
-    read_blocks(line.reading)
+    read_blocks(source, line.reading)
+}
+
+// Writes a line to standard error: which stream failed, a colon, and the system's words for why.
+fn report(rt: &HostRuntime, stream: &str, error: io::Error) -> io::Result<()> {
+    let text = format!(in rt.alloc(); "{error}")?;
+    match text.split_once(" (os error ") {
+        Some((reason, _)) => eprintln!(rt; "harmlist: {stream}: {reason}"),
+        None => eprintln!(rt; "harmlist: {stream}: {text}"),
+    }
 }
 
 // Writes the listing of an input, or the line for its refusal. No read of it may have failed.
-fn write_output(input: Input)
+fn write_output(rt: &HostRuntime, input: Input) -> io::Result<()>
     requires text_read { TextRead input }
     requires failed_value { input.failed ≡ false }
 {
     let mut output = [0u8; LISTING_ROOM];
     let answer = finish(input.reading, &mut output);
     let count = answer.value as usize;
-    let is_written = io::write_all(STDOUT_FILENO, &output[..count]);
-    if !is_written {
-        os::fail(b"harmlist: standard output");
+    match rt.stdout().write_all(&output[..count]) {
+        Ok(()) => Ok(()),
+        Err(error) => report(rt, "standard output", error),
     }
 }
 
-fn main() {
-    if os::arg_count() > 1 {
-        io::write_all(
-            STDERR_FILENO,
-            b"harmlist takes no arguments; it reads standard input\nusage: harmlist < RECORDING\n",
+// Whether an argument follows the program's name.
+fn has_argument(rt: &HostRuntime) -> bool {
+    let mut argument = [0u8; 1];
+    match rt.arg(1, &mut argument) {
+        Err(FillError::NotPresent) => false,
+        _ => true,
+    }
+}
+
+fn main(rt: HostRuntime) -> io::Result<()> {
+    if has_argument(&rt) {
+        return eprintln!(rt;
+            "harmlist takes no arguments; it reads standard input\nusage: harmlist < RECORDING"
         );
-        return;
     }
-    let input = read_input();
+    let mut source = Source {
+        stdin: rt.stdin(),
+        error: None,
+    };
+    let input = read_input(&mut source);
     if input.failed {
-        os::fail(b"harmlist: standard input");
-        return;
+        return match source.error {
+            Some(error) => report(&rt, "standard input", error),
+            None => Ok(()),
+        };
     }
-    write_output(input);
+    write_output(&rt, input)
 }

@@ -1,0 +1,12 @@
+-- `harmlist::read_line` meets its contract.
+use mathlib.Core.Path.{◌≡◌, refl}
+use native.Mathlib.Omega.{arith}
+use lib.ListN.{length}
+use Rattle.recordings.specs.TextLines.{text_line_bytes}
+use Rattle.harmlist.proofs.Blocks.{bytes_read}
+use Rattle.harmlist.proofs.read_line.Goals as goal
+
+pub returns : goal.returns
+returns c = let full = c.read_full-bytes in
+    let room : length full.new.0 ≡ text_line_bytes = omega (arith, full.auto) in
+    bytes_read text_line_bytes _ full.new.0 full.result.count _ room full.ensures refl c.begin-reading.ensures
