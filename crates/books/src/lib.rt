@@ -1,4 +1,6 @@
 // The smoothing of a value, as the reported book of an order does it.
+#![tactic(auto)]
+
 ghost use Rattle.std.specs.Prelude.{◌≡◌};
 ghost use Rattle.books.specs.Smoothing.{smoothed_value};
 

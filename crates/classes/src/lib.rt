@@ -1,4 +1,6 @@
 // The classes of equipment of IEC 61000-3-2, and the letters by which the calls name them.
+#![tactic(auto)]
+
 ghost use Rattle.std.specs.Prelude.{◌≡◌};
 ghost use Rattle.classes.specs.Letters.{is_class, class_with};
 

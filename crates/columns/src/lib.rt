@@ -1,6 +1,7 @@
 // Number columns of any width: their bytes, the width of a column alone, and what a reading answers;
 // no functions. column_reading reads a column, and column_writing writes one.
 // specs/Text.antt and specs/Calls.antt have the same numbers once for the contracts.
+#![tactic(auto)]
 
 // The width of a column that is read or written alone.
 pub const COLUMN_WIDTH: usize = 8;

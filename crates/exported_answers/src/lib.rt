@@ -2,6 +2,8 @@
 // the proved library. It answers a refusal's number, NO_REFUSAL where it accepts the call, and a refused
 // call leaves every buffer as it was. What the caller receives of an answer, its value or the values of a
 // row, is handed over here.
+#![tactic(auto)]
+
 ghost use Rattle.std.specs.Prelude.{◌≡◌, length};
 ghost use Rattle.refusals.specs.Answers.{unless_refused};
 ghost use Rattle.lists.specs.LentWords.{words_from};

@@ -8,8 +8,7 @@ use refusals::{NO_REFUSAL, fault_or};
 use three_seconds::three_second_value;
 
 // Writes the three-second value of an order.
-#[unsafe(no_mangle)]
-pub extern "C" fn kifsang_three_second_value(words: &[u64], order: u32, value: &mut u64) -> u32
+pub fn kifsang_three_second_value(words: &[u64], order: u32, value: &mut u64) -> u32
     ensures value { result ≡ three_second_call_refusal words.now order }
     ensures value_after { value.new ≡ three_second_call_exit words.now order value.old }
 {

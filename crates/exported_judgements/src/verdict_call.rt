@@ -36,8 +36,7 @@ fn hand_over_verdict(answer: VerdictAnswer, verdict: &mut u32) -> u32
 }
 
 // Writes the number of the verdict of an order in a class.
-#[unsafe(no_mangle)]
-pub extern "C" fn kifsang_verdict(
+pub fn kifsang_verdict(
     words: &[u64],
     order: u32,
     letter: u8,

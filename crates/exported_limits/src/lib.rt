@@ -1,5 +1,7 @@
 // The call for C, C++ and Rust programs from an order and a class to the limit; include/kifsang.h declares it.
 // exported_answers says what the exported calls have in common.
+#![tactic(auto)]
+
 ghost use Rattle.std.specs.Prelude.{◌≡◌};
 ghost use Rattle.limits.specs.Call.{limit_refusal};
 ghost use Rattle.exported_limits.specs.LimitCall.{limit_numerator_exit, limit_denominator_exit};
@@ -9,8 +11,7 @@ use limits::order_limit;
 use refusals::NO_REFUSAL;
 
 // Writes the limit of an order in a class in milliamperes, as a numerator over a denominator.
-#[unsafe(no_mangle)]
-pub extern "C" fn kifsang_limit(
+pub fn kifsang_limit(
     order: u32,
     letter: u8,
     numerator: &mut u64,

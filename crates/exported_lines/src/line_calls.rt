@@ -4,8 +4,7 @@ ghost use Rattle.spectrum.specs.Spectrum.{spectrum_refusal, spectrum_exit};
 ghost use Rattle.spectral_lines.specs.Calls.{lines_from_refusal, lines_from_exit};
 
 // Writes the 512 lines of the window that begins at `start`.
-#[unsafe(no_mangle)]
-pub extern "C" fn kifsang_spectrum(recording: &[i32], start: usize, lines: &mut [u64]) -> u32
+pub fn kifsang_spectrum(recording: &[i32], start: usize, lines: &mut [u64]) -> u32
     ensures value { result ≡ spectrum_refusal recording.now start lines.old }
     ensures lines_after { lines.new ≡ spectrum_exit recording.now start lines.old }
 {
@@ -13,8 +12,7 @@ pub extern "C" fn kifsang_spectrum(recording: &[i32], start: usize, lines: &mut 
 }
 
 // Writes the lines from `first` on of the window that begins at `start`, as many as `lines` holds.
-#[unsafe(no_mangle)]
-pub extern "C" fn kifsang_lines_from(
+pub fn kifsang_lines_from(
     recording: &[i32],
     start: usize,
     first: usize,

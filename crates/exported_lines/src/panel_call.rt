@@ -8,8 +8,7 @@ use refusals::{NO_REFUSAL, fault_or};
 use rows::{ORDER_COUNT, Setup};
 
 // Writes the 40 harmonic groups of the window that begins at `start`. The lines are 13 for the call's own use and hold 0 after it.
-#[unsafe(no_mangle)]
-pub extern "C" fn kifsang_panel_row(
+pub fn kifsang_panel_row(
     recording: &[i32],
     start: usize,
     system: u32,

@@ -1,5 +1,7 @@
 // The call for C, C++ and Rust programs from a recording's windows to a record; include/kifsang.h declares it.
 // exported_answers says what the exported calls have in common.
+#![tactic(auto)]
+
 ghost use Rattle.std.specs.Prelude.{◌≡◌};
 ghost use Rattle.rows.specs.Setups.{setup_of};
 ghost use Rattle.exported_observe.specs.ObserveCall.{observe_call_refusal, observe_call_exit};
@@ -10,8 +12,7 @@ use refusals::NO_REFUSAL;
 use rows::Setup;
 
 // Writes the record after windows back to back, each with the row of a kind.
-#[unsafe(no_mangle)]
-pub extern "C" fn kifsang_observe(
+pub fn kifsang_observe(
     recording: &[i32],
     start: usize,
     windows: usize,

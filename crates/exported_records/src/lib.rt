@@ -1,5 +1,7 @@
 // The calls for C, C++ and Rust programs that make a record and add a row to it; include/kifsang.h declares
 // them. exported_answers says what they have in common.
+#![tactic(auto)]
+
 ghost use Rattle.std.specs.Prelude.{◌≡◌};
 ghost use Rattle.rows.specs.Setups.{setup_of};
 ghost use Rattle.exported_records.specs.RecordCalls.{fresh_call_refusal, fresh_call_exit, add_row_call_refusal, add_row_call_exit};
@@ -10,8 +12,7 @@ use refusals::{NO_REFUSAL, fault_or};
 use rows::{ORDER_COUNT, Row, Setup, first_values};
 
 // Writes a record of a system and an edition with zeros.
-#[unsafe(no_mangle)]
-pub extern "C" fn kifsang_fresh_record(system: u32, edition: u32, words: &mut [u64]) -> u32
+pub fn kifsang_fresh_record(system: u32, edition: u32, words: &mut [u64]) -> u32
     ensures value { result ≡ fresh_call_refusal (setup_of system edition) words.old }
     ensures words_after { words.new ≡ fresh_call_exit (setup_of system edition) words.old }
 {
@@ -24,8 +25,7 @@ pub extern "C" fn kifsang_fresh_record(system: u32, edition: u32, words: &mut [u
 }
 
 // Adds a row to a record.
-#[unsafe(no_mangle)]
-pub extern "C" fn kifsang_add_row(
+pub fn kifsang_add_row(
     words: &mut [u64],
     system: u32,
     edition: u32,

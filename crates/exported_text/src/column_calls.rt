@@ -6,8 +6,7 @@ ghost use Rattle.exported_text.specs.ColumnCalls.{column_call_exit};
 use refusals::NO_REFUSAL;
 
 // Writes the number of a column of 8 bytes.
-#[unsafe(no_mangle)]
-pub extern "C" fn kifsang_read_column(text: &[u8], number: &mut i64) -> u32
+pub fn kifsang_read_column(text: &[u8], number: &mut i64) -> u32
     ensures value { result ≡ (column_read_answer text.now).refusal }
     ensures number_after { number.new ≡ column_call_exit text.now number.old }
 {
@@ -21,8 +20,7 @@ pub extern "C" fn kifsang_read_column(text: &[u8], number: &mut i64) -> u32
 }
 
 // Writes the column of a number into 8 bytes.
-#[unsafe(no_mangle)]
-pub extern "C" fn kifsang_write_column(buffer: &mut [u8], number: i64) -> u32
+pub fn kifsang_write_column(buffer: &mut [u8], number: i64) -> u32
     ensures value { result ≡ column_write_refusal buffer.old number }
     ensures buffer_after { buffer.new ≡ column_write_exit buffer.old number }
 {

@@ -7,8 +7,7 @@ use refusals::{NO_REFUSAL, fault_or};
 use rows::ORDER_COUNT;
 
 // Writes the listing of the 40 orders' values and the count of its bytes.
-#[unsafe(no_mangle)]
-pub extern "C" fn kifsang_fill_listing(
+pub fn kifsang_fill_listing(
     group: &[u32],
     subgroup: &[u32],
     smoothed: &[u32],

@@ -1,5 +1,7 @@
 // The calls for C, C++ and Rust programs from a window's lines to a group value and to a row of them, and from a
 // row to its distortion; include/kifsang.h declares them. exported_answers says what they have in common.
+#![tactic(auto)]
+
 ghost use Rattle.std.specs.Prelude.{◌≡◌};
 ghost use Rattle.rows.specs.Setups.{setup_of};
 ghost use Rattle.exported_windows.specs.GroupCalls.{group_call_refusal, group_call_exit, row_call_refusal, row_call_exit, distortion_call_refusal, distortion_call_exit};
@@ -10,8 +12,7 @@ use refusals::{NO_REFUSAL, fault_or};
 use rows::{ORDER_COUNT, Setup, first_values};
 
 // Writes the group value of a kind, a system, an edition and an order.
-#[unsafe(no_mangle)]
-pub extern "C" fn kifsang_group_value(
+pub fn kifsang_group_value(
     kind: u32,
     system: u32,
     edition: u32,
@@ -34,8 +35,7 @@ pub extern "C" fn kifsang_group_value(
 }
 
 // Writes the 40 values of a kind.
-#[unsafe(no_mangle)]
-pub extern "C" fn kifsang_row(
+pub fn kifsang_row(
     kind: u32,
     system: u32,
     edition: u32,
@@ -56,8 +56,7 @@ pub extern "C" fn kifsang_row(
 }
 
 // Writes the distortion of a row, in parts per thousand.
-#[unsafe(no_mangle)]
-pub extern "C" fn kifsang_distortion(values: &[u32], parts_per_thousand: &mut u64) -> u32
+pub fn kifsang_distortion(values: &[u32], parts_per_thousand: &mut u64) -> u32
     ensures value { result ≡ distortion_call_refusal values.now }
     ensures parts_per_thousand_after { parts_per_thousand.new ≡ distortion_call_exit values.now parts_per_thousand.old }
 {

@@ -2,6 +2,8 @@
 // Where the wave at two places is the same, the sum of what they hold serves both; where it is opposite, their difference does. So each folding keeps every sum over the places,
 // half of them serve the lines that end with it, and the other half go on. All is done in one list, and each place keeps its own angle.
 // The list is not written unless every check has passed.
+#![tactic(auto)]
+
 ghost use Rattle.std.specs.Prelude.{false, ◌≡◌, ◌*◌, ◌^◌, ◌<◌, nat_abs, ◌+ℤ◌, ◌-ℤ◌, length};
 ghost use Rattle.algebra.specs.Lists.{any_of};
 ghost use Rattle.windows.specs.Window.{window_length, largest_sample, out_of_range};

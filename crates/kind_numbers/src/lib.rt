@@ -1,5 +1,7 @@
 // The numbers that stand for the kinds of a group, for callers in other languages, and the own checks of the
 // exported calls that take one with a row or a record.
+#![tactic(auto)]
+
 ghost use Rattle.std.specs.Prelude.{[], ◌∷◌, ◌≡◌};
 ghost use Rattle.refusals.specs.Answers.{first_fault};
 ghost use Rattle.exported_answers.specs.OwnChecks.{wrong_word_count};

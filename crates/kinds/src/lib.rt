@@ -1,5 +1,7 @@
 // The five kinds of a group, and the span of neighbouring lines that a group of each takes under an edition.
 // Every function takes whatever it is handed.
+#![tactic(auto)]
+
 ghost use Rattle.std.specs.Prelude.{◌≡◌, ◌-◌};
 ghost use Rattle.kinds.specs.Kinds.{span_of, grouped_as};
 

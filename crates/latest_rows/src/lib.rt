@@ -1,4 +1,6 @@
 // The latest rows of a record: where the values of a row stand, and a new row in place of the oldest.
+#![tactic(auto)]
+
 ghost use Rattle.std.specs.Prelude.{◌≡◌, length};
 ghost use Rattle.latest_rows.specs.Latest.{values_kept, row_place, with_latest};
 

@@ -1,4 +1,6 @@
 // Lent lists of whole numbers: an element with its place, a copy of any length, and a test over all.
+#![tactic(auto)]
+
 ghost use Rattle.std.specs.Prelude.{◌≡◌, ltb, length, get_or};
 ghost use Rattle.algebra.specs.Lists.{any_of};
 ghost use Rattle.lists.specs.LentWords.{words_from};

@@ -1,6 +1,8 @@
 // An observation record as the words that a caller keeps, the parts of the record one after the other in
 // the order of include/kifsang.h. The places of the parts stand here once for the code, and in
 // specs/Words.antt once for the contracts.
+#![tactic(auto)]
+
 mod reading;
 mod writing;
 

@@ -1,4 +1,6 @@
 // The observation record, and which records are sound. The tests are lent its fields.
+#![tactic(auto)]
+
 mod soundness;
 
 use latest_rows::VALUES_KEPT;

@@ -1,6 +1,8 @@
 // The refusal numbers of document 01's table and of document 02's cards, each once, under a name that says what it
 // refuses.
 // specs/Numbers.antt has the same numbers once for the contracts. A row of checks is a nest of fault_or.
+#![tactic(auto)]
+
 ghost use Rattle.std.specs.Prelude.{cond, ◌≡◌};
 
 // The call is accepted: nothing is refused.

@@ -1,4 +1,6 @@
 // The vocabulary that all crates above share: the orders, the systems, the editions, and a row of values.
+#![tactic(auto)]
+
 mod edition;
 mod order;
 mod refused;

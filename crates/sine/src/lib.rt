@@ -2,6 +2,8 @@
 // of the quarter wave, from which the whole wave is made once and then lent. A value is 2^30 times
 // the sine. The table is copied where it is named, so a function takes it once and lends it; specs/Wave.antt defines the
 // values, and proofs/Wave.antt has their bound and their distance from the exact sine.
+#![tactic(auto)]
+
 ghost use Rattle.std.specs.Prelude.{◌≡◌, ◌%◌, ◌<◌, length};
 ghost use Rattle.algebra.specs.Lists.{tabulate};
 ghost use Rattle.sine.specs.Turn.{over_half, over_turn, turn, half_turn};

@@ -1,4 +1,6 @@
 // What the ways to work a window's spectral lines share: how many lines there are, and a line from its two whole sums.
+#![tactic(auto)]
+
 ghost use Rattle.std.specs.Prelude.{◌≡◌, ◌+◌, ltb};
 ghost use Rattle.algebra.specs.Integers.{square};
 ghost use Rattle.algebra.specs.Rounding.{nearestℤ};

@@ -1,6 +1,8 @@
 // From a window of a lent recording to its spectral lines: the 512 of its spectrum, or any part of its lines 0..1023.
 // The crate `folding` has what is done to the samples before anything is multiplied, sums.rt one line of a folded window. The wave and the folded window are made once in a call and lent to the sums.
 // Nothing is written unless every check has passed.
+#![tactic(auto)]
+
 mod sums;
 
 ghost use Rattle.std.specs.Prelude.{false, ◌≡◌, ◌+◌, ◌≤◌, length};

@@ -1,4 +1,6 @@
 // The whole part of the square root of a u64, by Newton's iteration from above.
+#![tactic(auto)]
+
 ghost use Rattle.std.specs.Prelude.{◌≡◌};
 ghost use Rattle.square_root.specs.Root.{root_of};
 

@@ -1,5 +1,7 @@
 // The window: a part of the lent recording, from its middle; the range of its samples; the checks of a call that is lent a recording; and what a sample is multiplied by.
 // Every function takes whatever it is handed.
+#![tactic(auto)]
+
 ghost use Rattle.std.specs.Prelude.{◌≡◌, min, ◌*ℤ◌};
 ghost use Rattle.algebra.specs.Lists.{any_of};
 ghost use Rattle.windows.specs.Window.{window_at, out_of_range};
