@@ -4,3 +4,4 @@ pub mod HalvedSums
 pub mod FoldedBounds
 pub mod FoldedList
 pub mod Worked
+pub mod ToHalve

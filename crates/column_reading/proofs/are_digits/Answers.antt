@@ -1,8 +1,6 @@
 use mathlib.Core.Bool.{true, false}
 use mathlib.Core.Path.{◌≡◌, refl, sym, ◌∙◌}
-use Prim.Native.Nat.{◌-◌}
 use native.Mathlib.Omega.{arith}
-use borrow.Author.Tests.{not-true, not-false}
 use lib.ListN.{get_or}
 use Rattle.columns.specs.Column.{is_digit}
 use Rattle.columns.proofs.Bytewise.{digits_from, digits-end}
@@ -14,13 +12,13 @@ loop-at-init c = (omega arith, refl)
 pub returns-then-not-is_digit : goal.returns-then-not-is_digit
 returns-then-not-is_digit c = let text = c.args.text.now in
     let l = c.loop-at in
-    let other : is_digit (get_or text l.at 0) ≡ false = sym c.is_digit.ensures ∙ not-true _ c.if-not-is_digit.true in
+    let other : is_digit (get_or text l.at 0) ≡ false = sym c.is_digit.ensures ∙ c.if-not-is_digit.true in
     sym (digits_from text l.at (omega arith) ∙ rw other) ∙ l.invariant.1
 
 pub loop-at-preserved : goal.loop-at-preserved
 loop-at-preserved c = let text = c.args.text.now in
     let l = c.loop-at in
-    let digit : is_digit (get_or text l.at 0) ≡ true = sym c.is_digit.ensures ∙ not-false _ c.if-not-is_digit.false in
+    let digit : is_digit (get_or text l.at 0) ≡ true = sym c.is_digit.ensures ∙ c.if-not-is_digit.false in
     (omega arith, sym (digits_from text l.at (omega arith) ∙ rw digit) ∙ l.invariant.1)
 
 pub returns : goal.returns

@@ -1,5 +1,4 @@
 use mathlib.Core.Path.{refl, sym, ◌∙◌}
-use Prim.Native.Nat.{◌-◌}
 use native.Mathlib.Omega.{arith}
 use Rattle.columns.proofs.Bytewise.{after-blank, after-other, after-end}
 use Rattle.column_reading.proofs.first_not_blank.Goals as goal

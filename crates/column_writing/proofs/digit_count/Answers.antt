@@ -1,5 +1,4 @@
 use native.Mathlib.Omega.{arith}
-use lib.ListN.{length}
 use Rattle.columns.proofs.Decimal.{length-below, length_above}
 use Rattle.column_writing.proofs.digit_count.Goals as goal
 

@@ -11,4 +11,4 @@ returns-then-buffer-ne-COLUMN_WIDTH c = let other = ne_eqb _ column_width c.if-b
 pub returns : goal.returns
 returns c = let wide = c.if-buffer-ne-COLUMN_WIDTH.false in
     let filled = rw (wide, to_z-of_z c.ranges.number) at c.fill_column.ensures in
-    let all = rw wide filled in record { value = all.0; buffer_after = all.1 }
+    record { value = rw wide filled.value; buffer_after = rw wide filled.buffer_after }

@@ -38,7 +38,7 @@ pub returns-then-number-lt0 : goal.returns-then-number-lt0
 returns-then-number-lt0 c = rw (text-is c) (at_end-more (digits-put c) minus (overflow_sub-at c))
 
 pub shape_of-buffer-then-number-lt0 : goal.shape_of-buffer-then-number-lt0
-shape_of-buffer-then-number-lt0 c = at_end-length (returns c)
+shape_of-buffer-then-number-lt0 c = at_end-length (at_end-more (digits-put c) minus (overflow_sub-at c))
 
 -- the digits stand at the end
 digits-put-2 : (c : goal.Else-number-lt0) → AtEnd c.args.buffer.now (decimal_text (nat_abs c.args.number)) c.write_digits-digits.result c.write_digits-digits.new.buffer

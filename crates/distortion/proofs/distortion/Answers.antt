@@ -19,11 +19,11 @@ use Rattle.distortion.proofs.distortion.Goals as goal
 
 pub returns-then-fundamental-eq0 : goal.returns-then-fundamental-eq0
 unfolding distortion_answer
-returns-then-fundamental-eq0 c = rw (eq-eqb (get_or c.args.t1 0 0) 0 c.if-fundamental-eq0.true)
+returns-then-fundamental-eq0 c = rw (eq-eqb (get_or c.args.values 0 0) 0 c.if-fundamental-eq0.true)
 
 pub returns : goal.returns
 unfolding distortion_answer
-returns c = let values = c.args.t1 in
+returns c = let values = c.args.values in
     let count : length values ≡ order_count = search rules in
     let small : (i : ℕ) → Fits w32 (get_or values i 0) = λ i. search rules in
     let present : get_or values 0 0 ≡ 0 → ⊥ = c.if-fundamental-eq0.false in

@@ -1,5 +1,4 @@
 use mathlib.Core.Path.{◌≡◌, sym, ◌∙◌}
-use Prim.Native.Nat.{◌-◌}
 use native.Mathlib.Omega.{arith}
 use borrow.Author.Rules.{rules}
 use lib.IntN.{pos}
@@ -18,10 +17,10 @@ loop-j-init c = search rules
 
 pub loop-j-preserved : goal.loop-j-preserved
 loop-j-preserved c = let a = c.args in (
-      omega arith,
-      search rules,
-      filled_more c.loop-j.j (held_by a.window.now) a.list.now c.loop-j.list c.loop-j.invariant.2 _ (omega arith) (to_z-of_z w32 _ (record { sfits = c.list-1.given })),
-    )
+  omega arith,
+  search rules,
+  filled_more c.loop-j.j (held_by a.window.now) a.list.now c.loop-j.list c.loop-j.invariant.2 _ (omega arith) (to_z-of_z w32 _ (record { sfits = c.list-1.given })),
+)
 
 pub returns : goal.returns
 returns c = let a = c.args in

@@ -10,8 +10,11 @@ use Rattle.folding.proofs.FoldedBounds.{bounded-same, paired-bounded}
 use Rattle.folding.proofs.fold_all.Goals as goal
 
 pub fold-requires : goal.fold-requires
-fold-requires c = let window = c.args.window.now in record { last_in_bounds = omega (arith, c.requires.list_len, c.copy_window.auto.list); bounded = bounded-same (2 ^ 29) (held_by c.copy_window.new.list) (held_by window) (ap held_by c.copy_window.ensures)
-          (λ p. omega (arith, sample-le window c.requires.window_value p)) }
+fold-requires c = let window = c.args.window.now in record {
+  last_in_bounds = omega (arith, c.requires.list_len, c.copy_window.auto.list);
+  bounded = bounded-same (2 ^ 29) (held_by c.copy_window.new.list) (held_by window) (ap held_by c.copy_window.ensures)
+      (λ p. omega (arith, sample-le window c.requires.window_value p));
+}
 
 -- the list after the pairs
 the-pairs : (c : goal.After-halve-arg-1) → held_by c.fold.new.list ≡ paired (held_by c.args.window.now)

@@ -30,9 +30,12 @@ passed-2 : (c : goal.After-fold_all) → window_refusal c.args.recording.now c.a
 passed-2 c = sym c.window_refusal-refusal.ensures ∙ c.if-refusal-eq-NO_REFUSAL.true
 
 pub returns-then-refusal-eq-NO_REFUSAL : goal.returns-then-refusal-eq-NO_REFUSAL
-returns-then-refusal-eq-NO_REFUSAL c = let a = c.args in record { value = c.window_refusal-refusal.ensures; list_after = list-of-held _ _ (search rules) c.fold_all.ensures
-          ∙ ap folded_list (is-window-2 c)
-          ∙ sym (exit-is a.recording.now a.start a.wrong-count a.list.now (passed-2 c)) }
+returns-then-refusal-eq-NO_REFUSAL c = let a = c.args in record {
+  value = c.window_refusal-refusal.ensures;
+  list_after = list-of-held _ _ (search rules) c.fold_all.ensures
+      ∙ ap folded_list (is-window-2 c)
+      ∙ sym (exit-is a.recording.now a.start a.wrong_count a.list.now (passed-2 c));
+}
 
 pub returns-else-refusal-eq-NO_REFUSAL : goal.returns-else-refusal-eq-NO_REFUSAL
 unfolding folded_exit

@@ -1,68 +1,11 @@
-use mathlib.Core.Path.{◌≡◌, refl, ap, ◌∙◌}
-use Prim.Native.Nat.{ℕ, zero, suc, ◌-◌, ◌*◌, ◌/◌, ◌^◌, ◌≤◌, ◌<◌}
-use native.Mathlib.Nat.{mul-le-mul_left, lt_irrefl, pow-succ'}
+-- `folding::halve` meets its contract: each halving leaves what is still to be halved.
+use mathlib.Core.Path.{refl, ◌∙◌}
+use Prim.Native.Nat.{◌^◌}
 use native.Mathlib.Omega.{arith}
-use lib.IntN.{ℤ}
-use lib.Pow.{pow_pos}
-use Rattle.windows.specs.Window.{largest_sample}
 use Rattle.spectral_lines.specs.Folding.{held_by, folded}
-use Rattle.folding.specs.Halving.{Bounded, largest_folded, halved, halved_from}
-use Rattle.folding.proofs.FoldedBounds.{bounded-same, folded-bounded, halved-bounded}
+use Rattle.folding.proofs.FoldedBounds.{bounded-same}
+use Rattle.folding.proofs.ToHalve.{small-before, small-between, halved-once, all-halved, none-halved}
 use Rattle.folding.proofs.halve.Goals as goal
-
--- a list f that is still to be halved at a reach, on the way from g
-pub record ToHalve (g : ℕ → ℤ) (reach : ℕ) (f : ℕ → ℤ) : Type 0 where
-  pub power : ℕ
-  pub is-power : reach ≡ 2 ^ power
-  pub whole : halved_from power f ≡ halved_from 10 g
-  pub bound : ℕ
-  pub bounded : Bounded bound f
-  pub small : bound * reach ≤ largest_folded
-
-module _ (g : ℕ → ℤ) (reach : ℕ) (f : ℕ → ℤ) (left : ToHalve g reach f) (some : 1 ≤ reach) where
-  bound-le : left.bound ≤ largest_folded
-  bound-le = omega (arith, left.small, mul-le-mul_left left.bound some)
-
-  -- the numbers stay small enough to be folded
-  pub small-before : Bounded (2 ^ 29) f
-  small-before p = omega (arith, left.bounded p, bound-le)
-
-  pub small-between : Bounded (2 ^ 29) (folded 0 reach f)
-  small-between p = omega (arith, folded-bounded 0 reach left.bound f left.bounded p, bound-le)
-
-  -- one halving
-  pub halved-once : 1 < reach → reach ≤ 1024 → ToHalve g (reach / 2) (folded (2049 - reach) 2047 (folded 0 reach f))
-  unfolding halved_from halved
-  halved-once more most = go left.power left.is-power left.whole
-    where
-      go : (d : ℕ) → reach ≡ 2 ^ d → halved_from d f ≡ halved_from 10 g → ToHalve g (reach / 2) (folded (2049 - reach) 2047 (folded 0 reach f))
-      go zero is-power whole = absurd (lt_irrefl 1 (rw is-power at more))
-      go (suc d) is-power whole =
-          let twice : reach ≡ 2 * 2 ^ d = is-power ∙ pow-succ' 2 d in
-          let half : reach / 2 ≡ 2 ^ d = omega (arith, twice) in
-          let least : 1 ≤ 2 ^ d = pow_pos d in
-          let power_le : 2 ^ d ≤ 512 = omega (arith, twice, most) in
-          let product : left.bound * reach ≡ left.bound * (2 * 2 ^ d) = ap (λ n. left.bound * n) twice in
-          record {
-            power = d;
-            is-power = half;
-            whole = rw twice whole;
-            bound = 2 * left.bound;
-            bounded = rw twice (halved-bounded (2 ^ d) least power_le left.bound f left.bounded);
-            small = rw half (omega (arith, left.small, product));
-          }
-
-  -- the last one is done
-  pub all-halved : reach ≤ 1 → f ≡ halved_from 10 g
-  unfolding halved_from
-  all-halved last = go left.power left.is-power left.whole
-    where
-      go : (d : ℕ) → reach ≡ 2 ^ d → halved_from d f ≡ halved_from 10 g → f ≡ halved_from 10 g
-      go zero is-power whole = whole
-      go (suc d) is-power whole = absurd (omega (arith, is-power ∙ pow-succ' 2 d, pow_pos d, last))
-
-pub none-halved : (f : ℕ → ℤ) → Bounded (2 * largest_sample) f → ToHalve f 1024 f
-none-halved f bounded = record { power = 10; is-power = refl; whole = refl; bound = 2 * largest_sample; bounded = bounded; small = omega arith }
 
 pub loop-reach-init : goal.loop-reach-init
 loop-reach-init c = (refl, omega arith, omega arith, none-halved (held_by c.args.list.now) c.requires.bounded)
@@ -71,17 +14,20 @@ pub fold-requires : goal.fold-requires
 fold-requires c = record { last_in_bounds = omega (arith, c.requires.list_len); bounded = small-before (held_by c.args.list.now) c.loop-reach.reach (held_by c.loop-reach.list) c.loop-reach.invariant.3 (omega arith) }
 
 pub fold-requires-in-loop-reach : goal.fold-requires-in-loop-reach
-fold-requires-in-loop-reach c = record { last_in_bounds = omega (arith, c.requires.list_len, c.fold.auto.list); bounded = bounded-same (2 ^ 29) (held_by c.fold.new.list) (folded 0 c.loop-reach.reach (held_by c.loop-reach.list)) c.fold.ensures
-          (small-between (held_by c.args.list.now) c.loop-reach.reach (held_by c.loop-reach.list) c.loop-reach.invariant.3 (omega arith)) }
+fold-requires-in-loop-reach c = record {
+  last_in_bounds = omega (arith, c.requires.list_len, c.fold.auto.list);
+  bounded = bounded-same (2 ^ 29) (held_by c.fold.new.list) (folded 0 c.loop-reach.reach (held_by c.loop-reach.list)) c.fold.ensures
+      (small-between (held_by c.args.list.now) c.loop-reach.reach (held_by c.loop-reach.list) c.loop-reach.invariant.3 (omega arith));
+}
 
 pub loop-reach-preserved : goal.loop-reach-preserved
 loop-reach-preserved c = (
-      c.fold-in-loop-reach.auto.list ∙ c.fold.auto.list ∙ c.loop-reach.invariant.0,
-      omega arith,
-      omega arith,
-      rw (c.fold-in-loop-reach.ensures, c.fold.ensures)
-          (halved-once (held_by c.args.list.now) c.loop-reach.reach (held_by c.loop-reach.list) c.loop-reach.invariant.3 (omega arith) (omega arith) (omega arith)),
-    )
+  c.fold-in-loop-reach.auto.list ∙ c.fold.auto.list ∙ c.loop-reach.invariant.0,
+  omega arith,
+  omega arith,
+  rw (c.fold-in-loop-reach.ensures, c.fold.ensures)
+      (halved-once (held_by c.args.list.now) c.loop-reach.reach (held_by c.loop-reach.list) c.loop-reach.invariant.3 (omega arith) (omega arith) (omega arith)),
+)
 
 pub returns : goal.returns
 returns c = all-halved (held_by c.args.list.now) c.loop-reach.reach (held_by c.loop-reach.list) c.loop-reach.invariant.3 (omega arith) (omega arith)

@@ -44,13 +44,16 @@ list_held : (c : goal.After-fill_lines-arg-1) → held_by (list-2 c) ≡ folded_
 list_held c = ap held_by c.fold_window-refusal.ensures.list_after ∙ exit-held _ _ _ _ (passed-2 c)
 
 pub fill_lines-requires : goal.fill_lines-requires
-fill_lines-requires c = let a = c.args in record { prepared = record {
-        window = window_at a.recording.now a.start;
-        in-range = (call c).in-range.samples;
-        long = list-long-2 c;
-        is-folded = list_held c;
-        one-turn = c.fill_wave.ensures;
-      }; lines_bound = c.requires (call c).right-count }
+fill_lines-requires c = let a = c.args in record {
+  prepared = record {
+    window = window_at a.recording.now a.start;
+    in-range = (call c).in-range.samples;
+    long = list-long-2 c;
+    is-folded = list_held c;
+    one-turn = c.fill_wave.ensures;
+  };
+  lines_bound = c.requires (call c).right-count;
+}
 
 -- the list that the window was folded to
 abbrev list-3 : (c : goal.After-slice_known-then-refusal-eq-NO_REFUSAL-1) → List ℤ

@@ -24,4 +24,4 @@ pub returns : goal.returns
 returns c = let a = c.args in
     let all = handed-on a.recording.now a.start a.first c.reach_past.result a.lines.now c.answer_lines.result _
     c.reach_past.ensures
-    c.answer_lines.ensures in record { value = all.0; lines_after = all.1 }
+    (c.answer_lines.ensures.value, c.answer_lines.ensures.lines_after) in record { value = all.0; lines_after = all.1 }

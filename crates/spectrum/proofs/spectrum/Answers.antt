@@ -29,9 +29,8 @@ handed-on recording start buffer answer exit h = (
       (λ passed.
       let count : length buffer ≡ line_count = eqb-true _ _ (not-false _ (accepted recording start buffer passed).right-count) in
       rw count),
-
 )
 
 pub returns : goal.returns
 returns c = let a = c.args in
-    let all = handed-on a.recording.now a.start a.lines.now c.answer_lines.result _ c.answer_lines.ensures in record { value = all.0; lines_after = all.1 }
+    let all = handed-on a.recording.now a.start a.lines.now c.answer_lines.result _ (c.answer_lines.ensures.value, c.answer_lines.ensures.lines_after) in record { value = all.0; lines_after = all.1 }

@@ -1,10 +1,10 @@
 use mathlib.Core.Path.{◌≡◌, refl}
-use Prim.Native.Nat.{◌+◌, ◌-◌, ◌<◌}
+use Prim.Native.Nat.{◌+◌, ◌<◌}
 use native.Mathlib.Omega.{arith}
 use lib.ListN.{replicate}
 use Rattle.algebra.specs.Lists.{tabulate}
 use Rattle.algebra.proofs.Filling.{filled_more, filled-whole}
-use Rattle.latest_rows.specs.Latest.{rows_kept, values_kept, row_place, latest_values}
+use Rattle.latest_rows.specs.Latest.{rows_kept, values_kept, latest_values}
 use Rattle.latest_rows.proofs.Latest.{row_fits}
 use Rattle.three_seconds.proofs.kept_values.Goals as goal
 
@@ -14,10 +14,10 @@ loop-j-init c = (omega arith, refl)
 
 pub loop-j-preserved : goal.loop-j-preserved
 loop-j-preserved c = let inside : c.loop-j.j < rows_kept = omega arith in (
-      omega arith,
-      filled_more _ _ (replicate rows_kept 0) _ c.loop-j.invariant.1 _ inside
-          (rw c.row_place-row.ensures),
-    )
+  omega arith,
+  filled_more _ _ (replicate rows_kept 0) _ c.loop-j.invariant.1 _ inside
+      (rw c.row_place-row.ensures),
+)
 
 pub returns : goal.returns
 unfolding latest_values

@@ -5,20 +5,14 @@ use native.Mathlib.Nat.{le_of_lt, le_trans}
 use native.Mathlib.Omega.{arith}
 use borrow.Author.Rules.{rules}
 use lib.Dec.{lit≤}
-use lib.ListN.{length, get_or, drop}
+use lib.ListN.{length, get_or}
 use mir.Syntax.{w32, w64}
 use mir.Val.{Fits}
 use Rattle.wide_numbers.specs.Squares.{sum_of_squares}
 use Rattle.wide_numbers.proofs.SumsOfSquares.{sum_of_squares-drop, sum_of_squares-end, square-lt, sum_of_squares-le}
 use Rattle.latest_rows.specs.Latest.{rows_kept}
+use Rattle.three_seconds.proofs.mean_square.Invariants.{largest_quotient, largest_remainder}
 use Rattle.three_seconds.proofs.mean_square.Goals as goal
-
--- the largest quotient of a 64-bit number by 15, and the largest remainder
-abbrev largest_quotient : ℕ
-largest_quotient = (2 ^ 64 - 1) / rows_kept
-
-abbrev largest_remainder : ℕ
-largest_remainder = rows_kept - 1
 
 -- ---- steps in plain numbers
 -- the place before `i`
@@ -66,29 +60,29 @@ record Known (values : List ℕ) : Type 0 where
   whole : length values ≡ rows_kept
   small : (i : ℕ) → get_or values i 0 < 2 ^ 32
 
-known : (c : goal.Start) → Known c.args.t1
+known : (c : goal.Start) → Known c.args.values
 known c =
-    let small : (i : ℕ) → Fits w32 (get_or c.args.t1 i 0) = λ i. search rules in
+    let small : (i : ℕ) → Fits w32 (get_or c.args.values i 0) = λ i. search rules in
     record { whole = search rules; small = λ i. (small i).fits }
 
 -- ---- the needs
 pub loop-i-init : goal.loop-i-init
-loop-i-init c = let values = c.args.t1 in
+loop-i-init c = let values = c.args.values in
     (omega arith, rw (known c).whole at (sym (sum_of_squares-end values)), omega arith, omega arith)
 
-known-2 : (c : goal.In-loop-i) → Known c.args.t1
+known-2 : (c : goal.In-loop-i) → Known c.args.values
 known-2 c =
-    let small : (i : ℕ) → Fits w32 (get_or c.args.t1 i 0) = λ i. search rules in
+    let small : (i : ℕ) → Fits w32 (get_or c.args.values i 0) = λ i. search rules in
     record { whole = search rules; small = λ i. (small i).fits }
 
 -- the square that is divided
-square-small : (c : goal.In-loop-i) → let v = get_or c.args.t1 (c.loop-i.i - 1) 0 in v * v < 2 ^ 64
+square-small : (c : goal.In-loop-i) → let v = get_or c.args.values (c.loop-i.i - 1) 0 in v * v < 2 ^ 64
 square-small c = square-lt _ ((known-2 c).small _)
 
 pub overflow_mul-square : goal.overflow_mul-square
 overflow_mul-square c = record { fits = square-small c }
 
-quotients-next : (c : goal.In-loop-i) → let v = get_or c.args.t1 (c.loop-i.i - 1) 0 in
+quotients-next : (c : goal.In-loop-i) → let v = get_or c.args.values (c.loop-i.i - 1) 0 in
     c.loop-i.quotients + v * v / rows_kept + (c.loop-i.i - 1) * largest_quotient ≤ rows_kept * largest_quotient
 quotients-next c =
     let i = c.loop-i.i in
@@ -97,7 +91,7 @@ quotients-next c =
 pub overflow_add-quotients : goal.overflow_add-quotients
 overflow_add-quotients c = fits-64 _ (sum-le _ _ _ (quotients-next c))
 
-remainders-next : (c : goal.In-loop-i) → let v = get_or c.args.t1 (c.loop-i.i - 1) 0 in
+remainders-next : (c : goal.In-loop-i) → let v = get_or c.args.values (c.loop-i.i - 1) 0 in
     c.loop-i.remainders + v * v % rows_kept + (c.loop-i.i - 1) * largest_remainder ≤ rows_kept * largest_remainder
 remainders-next c =
     let i = c.loop-i.i in
@@ -107,7 +101,7 @@ pub overflow_add-remainders : goal.overflow_add-remainders
 overflow_add-remainders c = fits-64 _ (le_trans (sum-le _ _ _ (remainders-next c)) (lit≤ tt))
 
 pub loop-i-preserved : goal.loop-i-preserved
-loop-i-preserved c = let values = c.args.t1 in
+loop-i-preserved c = let values = c.args.values in
     let i = c.loop-i.i in
     let some = c.loop-i-test.true in
     let below = place-lt i rows_kept some c.loop-i.invariant.0 in
@@ -118,16 +112,16 @@ loop-i-preserved c = let values = c.args.t1 in
       remainders-next c,
     )
 
-known-3 : (c : goal.After-loop-i) → Known c.args.t1
+known-3 : (c : goal.After-loop-i) → Known c.args.values
 known-3 c =
-    let small : (i : ℕ) → Fits w32 (get_or c.args.t1 i 0) = λ i. search rules in
+    let small : (i : ℕ) → Fits w32 (get_or c.args.values i 0) = λ i. search rules in
     record { whole = search rules; small = λ i. (small i).fits }
 
-squares-divided : (c : goal.After-loop-i) → rows_kept * c.loop-i.quotients + c.loop-i.remainders ≡ sum_of_squares c.args.t1
+squares-divided : (c : goal.After-loop-i) → rows_kept * c.loop-i.quotients + c.loop-i.remainders ≡ sum_of_squares c.args.values
 squares-divided c = rw (none_left c.loop-i.i c.loop-i-test.false) at c.loop-i.invariant.1
 
 pub overflow_add-result : goal.overflow_add-result
-overflow_add-result c = let values = c.args.t1 in
+overflow_add-result c = let values = c.args.values in
     let k = known-3 c in
     rw (divided-mean _ _ _ (squares-divided c)) (mean-fits _ (rw k.whole at (sum_of_squares-le values k.small)))
 

@@ -14,11 +14,16 @@ pub returns-then-refusal-ne-NO_REFUSAL : goal.returns-then-refusal-ne-NO_REFUSAL
 unfolding limit_answer
 returns-then-refusal-ne-NO_REFUSAL c = rw (← refusal_is c, ne_eqb _ no_refusal c.if-refusal-ne-NO_REFUSAL.true, c.no_limit.ensures)
 
+refusal_is-2 : (c : goal.After-class_limit) → c.fault_or-refusal.result ≡ limit_refusal c.args.order c.args.letter
+unfolding limit_refusal
+refusal_is-2 c = cc
+
 pub returns : goal.returns
 unfolding limit_answer
-returns c = let passed = sym (refusal_is at) ∙ c.if-refusal-ne-NO_REFUSAL.false in
+returns c =
+    let passed = sym (refusal_is-2 c) ∙ c.if-refusal-ne-NO_REFUSAL.false in
     rw (
-      ← refusal_is at,
+      ← refusal_is-2 c,
       c.if-refusal-ne-NO_REFUSAL.false,
       c.class_limit.ensures,
       c.class_with.ensures,

@@ -9,7 +9,7 @@ use Rattle.limits.proofs.ClassB.{common, common-range, listed_limit-class-B}
 use Rattle.limits.proofs.limit.table_limit.Goals as goal
 
 pub returns-in-A : goal.returns-in-A
-returns-in-A c = rw (c.enum_told-1.given.1, c.row_of-row.ensures)
+returns-in-A c = rw (c.in-A.is, c.row_of-row.ensures)
 
 -- class A's limit, which the row has
 row-limit : (c : goal.After-divisor_or_one-in-B) → Fraction
@@ -23,7 +23,7 @@ common-is c =
 
 pub returns-in-B : goal.returns-in-B
 unfolding row-limit
-returns-in-B c = rw (c.enum_told-in-B-1.given.1, common-is c, c.row_of-row.ensures)
+returns-in-B c = rw (c.in-B.is, common-is c, c.row_of-row.ensures)
     (listed_limit-class-B c.args.order c.requires)
 
 common-small : (c : goal.After-divisor_or_one-in-B) → let common = c.divisor_or_one.result * c.divisor_or_one-in-B.result in

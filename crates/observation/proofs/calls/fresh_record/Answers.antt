@@ -11,11 +11,11 @@ refusal_is c = c.setup_fault_or-refusal.ensures
 pub returns-then-refusal-ne-NO_REFUSAL : goal.returns-then-refusal-ne-NO_REFUSAL
 unfolding fresh_answer
 returns-then-refusal-ne-NO_REFUSAL c = rw (
-      ← refusal_is c,
-      ne_eqb _ _ c.if-refusal-ne-NO_REFUSAL.true,
-      c.empty_record.ensures,
-      c.refused_setup.ensures,
-    )
+  ← refusal_is c,
+  ne_eqb _ _ c.if-refusal-ne-NO_REFUSAL.true,
+  c.empty_record.ensures,
+  c.refused_setup.ensures,
+)
 
 refusal_is-2 : (c : goal.After-empty_record-2) → c.setup_fault_or-refusal.result ≡ fresh_refusal c.args.setup
 unfolding fresh_refusal

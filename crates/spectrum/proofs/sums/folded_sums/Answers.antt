@@ -1,7 +1,7 @@
 -- `spectrum::sums::folded_sums` meets its contract: the two parts that it lends lie in the folded list, hold what the line's halving left, and their sums are those over the line's places.
 use mathlib.Core.List.{List}
 use mathlib.Core.Path.{◌≡◌, sym, ap, ap₂, ◌∙◌}
-use Prim.Native.Nat.{ℕ, suc, ◌+◌, ◌-◌, ◌*◌, ◌≤◌}
+use Prim.Native.Nat.{ℕ, suc, ◌+◌, ◌-◌, ◌≤◌}
 use native.Mathlib.Numerals.{add-one}
 use native.Mathlib.Omega.{arith}
 use lib.IntN.{ℤ, ◌*ℤ◌}
@@ -57,16 +57,22 @@ module _ (folded wave : List ℤ) (prepared : Prepared folded wave) (k half : �
       ap₂ (λ p q. held_by folded p *ℤ cosine_of k (q + i)) place (add-one half))
 
 pub part_sums-requires : goal.part_sums-requires
-part_sums-requires c = let a = c.args in record { parts = rw (cut a.folded.now (a.half + 1) a.half, cut a.folded.now (a.half + 1 + sine_ahead a.half) a.half)
-          (two-parts a.folded.now a.wave.now c.requires.prepared a.k a.half c.requires.ends_at); k_lt_line_limit = c.requires.k_lt_line_limit }
+part_sums-requires c = let a = c.args in record {
+  parts = rw (cut a.folded.now (a.half + 1) a.half, cut a.folded.now (a.half + 1 + sine_ahead a.half) a.half)
+      (two-parts a.folded.now a.wave.now c.requires.prepared a.k a.half c.requires.ends_at);
+  k_lt_line_limit = c.requires.k_lt_line_limit;
+}
 
 pub returns : goal.returns
 returns c = let a = c.args in
-    let list = a.folded.now in record { cosine_value = c.part_sums.ensures.cosine_value
+    let list = a.folded.now in record {
+      cosine_value = c.part_sums.ensures.cosine_value
           ∙ ap (λ part. part_sum part (a.half + 1) a.k) (cut list (a.half + 1) a.half)
-          ∙ cosine-sum list a.wave.now c.requires.prepared a.k a.half c.requires.ends_at; sine_value = c.part_sums.ensures.sine_value
+          ∙ cosine-sum list a.wave.now c.requires.prepared a.k a.half c.requires.ends_at;
+      sine_value = c.part_sums.ensures.sine_value
           ∙ ap (λ part. part_sum part (a.half + 1) a.k) (cut list (a.half + 1 + sine_ahead a.half) a.half)
-          ∙ sine-sum list a.wave.now c.requires.prepared a.k a.half c.requires.ends_at }
+          ∙ sine-sum list a.wave.now c.requires.prepared a.k a.half c.requires.ends_at;
+    }
 
 most : (c : goal.Start) → c.args.half ≤ 512
 most c = half_le c.args.k c.args.half c.requires.ends_at

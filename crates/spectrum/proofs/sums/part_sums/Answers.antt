@@ -1,13 +1,12 @@
 use mathlib.Core.List.{List}
 use mathlib.Core.Path.{◌≡◌, refl, sym, ap, ap₂, ◌∙◌}
-use Prim.Native.Nat.{ℕ, ◌+◌, ◌*◌, ◌-◌, ◌%◌, ◌^◌, ◌<◌, ◌≤◌}
+use Prim.Native.Nat.{ℕ, ◌+◌, ◌*◌, ◌%◌, ◌^◌, ◌<◌, ◌≤◌}
 use native.Mathlib.Nat.{mul-le-mul, le_of_lt, lt_of_lt_of_le}
 use native.Mathlib.Numerals.{add-one}
 use native.Mathlib.Omega.{arith}
 use lib.IntN.{ℤ, pos, nat_abs, ◌+ℤ◌, ◌*ℤ◌}
 use lib.ListN.{length, get_or}
 use mir.Syntax.{w32, w64}
-use mir.Val.{to_z}
 use mir.ValLaws.{to_z-of_z}
 use Rattle.algebra.specs.Sums.{sum_to}
 use Rattle.sine.specs.Turn.{turn, quarter_turn}
@@ -17,11 +16,8 @@ use Rattle.spectral_lines.specs.Folding.{held_by, cosine_of}
 use Rattle.spectrum.specs.LinePlaces.{part_sum}
 use Rattle.spectrum.specs.Prepared.{SumFits}
 use Rattle.spectrum.proofs.FoldedLines.{sum_fits-le}
+use Rattle.spectrum.proofs.sums.part_sums.Invariants.{sum_of_first}
 use Rattle.spectrum.proofs.sums.part_sums.Goals as goal
-
--- the sum over the first n numbers of a part
-abbrev sum_of_first : ℕ → List ℤ → ℕ → ℕ → ℤ
-sum_of_first n part first k = sum_to n (λ i. held_by part i *ℤ cosine_of k (first + i))
 
 -- the sums stay small on the way
 sum-small : (part : List ℤ) (first k n : ℕ) → 1 ≤ length part → n ≤ length part → SumFits part → nat_abs (sum_of_first n part first k) < 2 ^ 62
