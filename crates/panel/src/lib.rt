@@ -1,5 +1,7 @@
 // The row of a window's harmonic groups with 13 lines of scratch (document 02, card 6): the lines of one group at a time.
 // The last line of a group is the first of the next and is kept for it, so that no line is worked twice.
+#![tactic(auto)]
+
 ghost use Rattle.std.specs.Prelude.{true, not, ◌++◌, ◌≡◌, ◌+◌, ◌^◌, ◌<◌, eqb, length, replicate};
 ghost use Rattle.refusals.specs.Numbers.{no_refusal};
 ghost use Rattle.refusals.specs.Answers.{first_fault};

@@ -1,5 +1,7 @@
 // Lines of a window that are each worked by themselves, with the quarter wave for all scratch (document 02, card 6): for callers that have little of it, or want few lines.
 // Nothing is written unless every check has passed.
+#![tactic(auto)]
+
 mod alone;
 
 ghost use Rattle.std.specs.Prelude.{◌≡◌, ◌+◌, ◌≤◌, length};

@@ -1,5 +1,7 @@
 // The sum of 2×w×L over a span of any lines, and the checks of lines that a caller lends.
 // Every function takes whatever it is handed.
+#![tactic(auto)]
+
 mod checks;
 mod sums;
 
