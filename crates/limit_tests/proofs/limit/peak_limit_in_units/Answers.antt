@@ -20,4 +20,5 @@ overflow_mul-result-2 c = let args = c.args in
     rw c.limit_in_units-limit.ensures (omega (arith, (listed_in_units-le args.class args.order args.scale fits).1))
 
 pub returns : goal.returns
+unfolding times divide
 returns c = rw c.limit_in_units-limit.ensures

@@ -1,9 +1,8 @@
 use mathlib.Core.Path.{◌≡◌}
-use Prim.Native.Nat.{◌-◌}
 use native.Mathlib.Numerals.{add-one}
 use native.Mathlib.Omega.{arith}
 use Rattle.rows.specs.Orders.{order_count}
-use Rattle.listing.specs.Listing.{text_line_length, orders_text}
+use Rattle.listing.specs.Listing.{orders_text}
 use Rattle.listing.proofs.Puts.{put-none, put_then, put-length}
 use Rattle.listing.proofs.listing.put_orders.Goals as goal
 
@@ -27,8 +26,8 @@ loop-done-preserved c = let l = c.loop-done in
       c.number_at-in-loop-done-2.ensures,
       add-one,
     )
-    at order.0 in
-    (omega arith, omega (arith, order.1), rw add-one (put_then l.invariant.2 put))
+    at order.put in
+    (omega arith, omega (arith, order.upper_bound), rw add-one (put_then l.invariant.2 put))
 
 pub shape_of-buffer : goal.shape_of-buffer
 shape_of-buffer c = put-length c.loop-done.invariant.2

@@ -11,11 +11,11 @@ use borrow.Author.Rules.{rules}
 use Rattle.listing.proofs.refusal_line.put_refusal_line.Goals as goal
 
 -- the word takes 7 bytes, and the column stands after it
-word-put : (c : goal.After-slice_known-3-1) → Put c.args.buffer.now 0 (bytes_of "refused") c.copy.result c.copy.new.1.0
+word-put : (c : goal.After-slice_known-3-1) → Put c.args.buffer.now 0 (bytes_of "refused") c.put_text-at.result c.put_text-at.new.buffer
 unfolding bytes_of
 word-put c =
     let buffer = c.args.buffer.now in
-    rw (c.copy.ensures.0, c.copy.ensures.1) (put_copy buffer (bytes_of "refused") 7 refl (omega arith))
+    rw (c.put_text-at.ensures.value, c.put_text-at.ensures.copied) (put_copy buffer (bytes_of "refused") 7 refl (omega arith))
 
 line-put : (c : goal.After-slice_known-3-1) → Put c.args.buffer.now 0
     (refusal_line c.args.refusal)
@@ -23,10 +23,10 @@ line-put : (c : goal.After-slice_known-3-1) → Put c.args.buffer.now 0
 unfolding refusal_line
 line-put c =
     let column = c.put_column-end in
-    put_then (put_then (word-put c) column.ensures.0) (put_byte column.new.0 column.result newline)
+    put_then (put_then (word-put c) column.ensures.put) (put_byte column.new.buffer column.result newline)
 
 pub returns : goal.returns
 returns c = put_whole (line-put c) (search rules)
 
-pub returns : goal.returns
-returns c = put-length (line-put c)
+pub shape_of-buffer : goal.shape_of-buffer
+shape_of-buffer c = put-length (line-put c)
