@@ -1,4 +1,6 @@
 // A value against a limit of IEC 61000-3-2: the limits of an order in units, and the two tests.
+#![tactic(auto)]
+
 mod limit;
 mod tests;
 

@@ -1,5 +1,7 @@
 // The calls that make an observation record and add a row to it. The record goes in by value and comes back by
 // value.
+#![tactic(auto)]
+
 mod book;
 mod calls;
 

@@ -1,5 +1,7 @@
 // From the samples of windows back to back to the record after them, by the calls that a user would
 // make in turn. The first call that is refused decides.
+#![tactic(auto)]
+
 ghost use Rattle.std.specs.Prelude.{◌≡◌};
 ghost use Rattle.observation.specs.Calls.{refused_record};
 ghost use Rattle.observe.specs.Observe.{observe_answer};

@@ -1,4 +1,6 @@
 // The three-second value of an order: one figure for the latest 15 windows of a record.
+#![tactic(auto)]
+
 ghost use Rattle.std.specs.Prelude.{◌≡◌, ◌/◌, ◌<◌, ◌≤◌};
 ghost use Rattle.refusals.specs.Answers.{first_fault};
 ghost use Rattle.rows.specs.Orders.{order_count};

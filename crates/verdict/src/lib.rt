@@ -1,4 +1,6 @@
 // The verdict of an order against the limits of IEC 61000-3-2, in class A or B.
+#![tactic(auto)]
+
 mod call;
 
 pub use call::order_verdict;
