@@ -36,13 +36,7 @@ fn hand_over_verdict(answer: VerdictAnswer, verdict: &mut u32) -> u32
 }
 
 // Writes the number of the verdict of an order in a class.
-pub fn kifsang_verdict(
-    words: &[u64],
-    order: u32,
-    letter: u8,
-    scale: u32,
-    verdict: &mut u32,
-) -> u32
+pub fn kifsang_verdict(words: &[u64], order: u32, letter: u8, scale: u32, verdict: &mut u32) -> u32
     ensures value { result ≡ verdict_call_refusal words.now (asked order letter scale) }
     ensures verdict_after { verdict.new ≡ verdict_call_exit words.now (asked order letter scale) verdict.old }
 {

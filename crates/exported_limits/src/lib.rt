@@ -11,12 +11,7 @@ use limits::order_limit;
 use refusals::NO_REFUSAL;
 
 // Writes the limit of an order in a class in milliamperes, as a numerator over a denominator.
-pub fn kifsang_limit(
-    order: u32,
-    letter: u8,
-    numerator: &mut u64,
-    denominator: &mut u64,
-) -> u32
+pub fn kifsang_limit(order: u32, letter: u8, numerator: &mut u64, denominator: &mut u64) -> u32
     ensures value { result ≡ limit_refusal order letter }
     ensures numerator_after { numerator.new ≡ limit_numerator_exit order letter numerator.old }
     ensures denominator_after { denominator.new ≡ limit_denominator_exit order letter denominator.old }

@@ -5,5 +5,5 @@
 mod line_calls;
 mod panel_call;
 
-pub use line_calls::{kifsang_spectrum, kifsang_lines_from};
+pub use line_calls::{kifsang_lines_from, kifsang_spectrum};
 pub use panel_call::kifsang_panel_row;

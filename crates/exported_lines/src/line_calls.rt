@@ -12,12 +12,7 @@ pub fn kifsang_spectrum(recording: &[i32], start: usize, lines: &mut [u64]) -> u
 }
 
 // Writes the lines from `first` on of the window that begins at `start`, as many as `lines` holds.
-pub fn kifsang_lines_from(
-    recording: &[i32],
-    start: usize,
-    first: usize,
-    lines: &mut [u64],
-) -> u32
+pub fn kifsang_lines_from(recording: &[i32], start: usize, first: usize, lines: &mut [u64]) -> u32
     ensures value { result ≡ lines_from_refusal recording.now start first lines.old }
     ensures lines_after { lines.new ≡ lines_from_exit recording.now start first lines.old }
 {

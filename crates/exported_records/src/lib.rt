@@ -25,12 +25,7 @@ pub fn kifsang_fresh_record(system: u32, edition: u32, words: &mut [u64]) -> u32
 }
 
 // Adds a row to a record.
-pub fn kifsang_add_row(
-    words: &mut [u64],
-    system: u32,
-    edition: u32,
-    values: &[u32],
-) -> u32
+pub fn kifsang_add_row(words: &mut [u64], system: u32, edition: u32, values: &[u32]) -> u32
     ensures value { result ≡ add_row_call_refusal words.old (setup_of system edition) values.now }
     ensures words_after { words.new ≡ add_row_call_exit words.old (setup_of system edition) values.now }
 {

@@ -35,13 +35,7 @@ pub fn kifsang_group_value(
 }
 
 // Writes the 40 values of a kind.
-pub fn kifsang_row(
-    kind: u32,
-    system: u32,
-    edition: u32,
-    lines: &[u64],
-    values: &mut [u32],
-) -> u32
+pub fn kifsang_row(kind: u32, system: u32, edition: u32, lines: &[u64], values: &mut [u32]) -> u32
     ensures value { result ≡ row_call_refusal kind (setup_of system edition) lines.now values.old }
     ensures values_after { values.new ≡ row_call_exit kind (setup_of system edition) lines.now values.old }
 {

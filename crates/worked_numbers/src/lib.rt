@@ -2,4 +2,3 @@
 // margins of demand 3 and the bounds of one bad sample in figures, proved of the definitions that the
 // contracts cite; no code.
 #![tactic(auto)]
-

@@ -61,9 +61,12 @@ returns c = let a = c.args in
     whole.0
     answered
     c.hand_over_record.ensures in
-    rw passed (record { value = handed.0 ∙ record_read-same (λ o. add_row_refusal o row) unsound_record (λ o unsound. rw unsound) words; words_after = handed.1 ∙
+    rw passed (record {
+      value = handed.0 ∙ record_read-same (λ o. add_row_refusal o row) unsound_record (λ o unsound. rw unsound) words;
+      words_after = handed.1 ∙
           record_read-same
           (λ o. unless_refused (add_row_refusal o row) (words_of (with_row o row)) words)
           words
           (λ o unsound. rw unsound)
-          words })
+          words;
+    })

@@ -33,7 +33,6 @@ loop-i-preserved c = (
   search rules,
   filled_more _ _ _ _ c.loop-i.invariant.2 _ (omega arith)
       (cut c.wave_at.result (fits c) ∙ is-table c),
-
 )
 
 pub returns : goal.returns

@@ -33,9 +33,9 @@ tested c = sym (c.is_outside-found.ensures ∙ ap out_of_range (to_z-of_z w32 _ 
 
 pub loop-j-preserved : goal.loop-j-preserved
 loop-j-preserved c = (
-      omega arith,
-      looked c.args.window.now c.loop-j.j c.loop-j.found _ (omega arith) (tested c) ∙ c.loop-j.invariant.1,
-    )
+  omega arith,
+  looked c.args.window.now c.loop-j.j c.loop-j.found _ (omega arith) (tested c) ∙ c.loop-j.invariant.1,
+)
 
 pub returns : goal.returns
 returns c = let w = c.args.window.now in

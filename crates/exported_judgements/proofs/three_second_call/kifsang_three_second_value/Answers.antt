@@ -30,9 +30,12 @@ returns c = let a = c.args in
     _
     answered
     c.hand_over.ensures in
-    rw passed (record { value = received.0 ∙ record_read-same (λ o. three_second_refusal o a.order) unsound_record (λ o unsound. rw unsound) words; value_after = received.1 ∙
+    rw passed (record {
+      value = received.0 ∙ record_read-same (λ o. three_second_refusal o a.order) unsound_record (λ o unsound. rw unsound) words;
+      value_after = received.1 ∙
           record_read-same
           (λ o. unless_refused (three_second_refusal o a.order) (three_second_in o a.order) a.value.now)
           a.value.now
           (λ o unsound. rw unsound)
-          words })
+          words;
+    })

@@ -25,9 +25,11 @@ returns c = let a = c.args in
     rw (← c.read_record.ensures) c.order_verdict-answer.ensures.value in
     let handed = rw answered at c.hand_over_verdict.ensures in
     let received = verdict-received (record_read words) q a.verdict.now in
-    rw passed (record { value = handed.0 ∙
+    rw passed (record {
+      value = handed.0 ∙
           (received.0 ∙
-          record_read-same (λ o. verdict_refusal o q) unsound_record (λ o unsound. rw unsound) words); verdict_after = handed.1 ∙
+          record_read-same (λ o. verdict_refusal o q) unsound_record (λ o unsound. rw unsound) words);
+      verdict_after = handed.1 ∙
           (received.1 ∙
           record_read-same
           (λ o.
@@ -37,4 +39,5 @@ returns c = let a = c.args in
           a.verdict.now)
           a.verdict.now
           (λ o unsound. rw unsound)
-          words) })
+          words);
+    })

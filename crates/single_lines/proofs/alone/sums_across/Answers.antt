@@ -48,17 +48,17 @@ sine-number c =
 
 pub loop-j-preserved : goal.loop-j-preserved
 loop-j-preserved c = (
-      omega arith,
-      omega arith,
-      to_z-of_z w64 _ (record { sfits = c.accumulate-cosine.type_inv })
-          ∙ c.accumulate-cosine.ensures
-          ∙ place-added (cosine_gives (window c) (k c)) (j c) _ _ c.loop-j.inv.0 c.loop-j.inv.2
-          (ap₂ ◌*ℤ◌ (cosine-number c) (to_z-of_z w32 _ (record { sfits = c.cosine_at.type_inv }) ∙ c.cosine_at.ensures)),
-      to_z-of_z w64 _ (record { sfits = c.accumulate-sine.type_inv })
-          ∙ c.accumulate-sine.ensures
-          ∙ place-added (sine_gives (window c) (k c)) (j c) _ _ c.loop-j.inv.0 c.loop-j.inv.3
-          (ap₂ ◌*ℤ◌ (sine-number c) (to_z-of_z w32 _ (record { sfits = c.sine_at.type_inv }) ∙ c.sine_at.ensures)),
-    )
+  omega arith,
+  omega arith,
+  to_z-of_z w64 _ (record { sfits = c.accumulate-cosine.type_inv })
+      ∙ c.accumulate-cosine.ensures
+      ∙ place-added (cosine_gives (window c) (k c)) (j c) _ _ c.loop-j.inv.0 c.loop-j.inv.2
+      (ap₂ ◌*ℤ◌ (cosine-number c) (to_z-of_z w32 _ (record { sfits = c.cosine_at.type_inv }) ∙ c.cosine_at.ensures)),
+  to_z-of_z w64 _ (record { sfits = c.accumulate-sine.type_inv })
+      ∙ c.accumulate-sine.ensures
+      ∙ place-added (sine_gives (window c) (k c)) (j c) _ _ c.loop-j.inv.0 c.loop-j.inv.3
+      (ap₂ ◌*ℤ◌ (sine-number c) (to_z-of_z w32 _ (record { sfits = c.sine_at.type_inv }) ∙ c.sine_at.ensures)),
+)
 
 pub returns : goal.returns
 returns c = let all : c.loop-j.j - 1 ≡ 511 = omega (arith, c.loop-j.invariant.1) in

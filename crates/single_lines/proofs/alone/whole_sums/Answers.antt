@@ -122,15 +122,18 @@ middle-difference c = read_as w32 _ _ c.pair_at-middle.ensures.difference_value 
 
 pub returns : goal.returns
 unfolding cosine_over_quarter sine_over_quarter
-returns c = record { cosine_value = to_z-of_z w64 _ (record { sfits = c.accumulate.type_inv })
-          ∙ c.accumulate.ensures
-          ∙ ap₂ ◌+ℤ◌ (with-ends c)
-          (ap₂ ◌*ℤ◌ (middle-sum c) (to_z-of_z w32 _ (record { sfits = c.cosine_at-2.type_inv }) ∙ c.cosine_at-2.ensures))
-          ∙ cosine_over_quarter-whole (window-4 c) (k-3 c); sine_value = to_z-of_z w64 _ (record { sfits = c.accumulate-2.type_inv })
-          ∙ c.accumulate-2.ensures
-          ∙ ap₂ ◌+ℤ◌ (sine-is-2 c)
-          (ap₂ ◌*ℤ◌ (middle-difference c) (to_z-of_z w32 _ (record { sfits = c.sine_at.type_inv }) ∙ c.sine_at.ensures))
-          ∙ sine_over_quarter-whole (window-4 c) (k-3 c) }
+returns c = record {
+  cosine_value = to_z-of_z w64 _ (record { sfits = c.accumulate.type_inv })
+      ∙ c.accumulate.ensures
+      ∙ ap₂ ◌+ℤ◌ (with-ends c)
+      (ap₂ ◌*ℤ◌ (middle-sum c) (to_z-of_z w32 _ (record { sfits = c.cosine_at-2.type_inv }) ∙ c.cosine_at-2.ensures))
+      ∙ cosine_over_quarter-whole (window-4 c) (k-3 c);
+  sine_value = to_z-of_z w64 _ (record { sfits = c.accumulate-2.type_inv })
+      ∙ c.accumulate-2.ensures
+      ∙ ap₂ ◌+ℤ◌ (sine-is-2 c)
+      (ap₂ ◌*ℤ◌ (middle-difference c) (to_z-of_z w32 _ (record { sfits = c.sine_at.type_inv }) ∙ c.sine_at.ensures))
+      ∙ sine_over_quarter-whole (window-4 c) (k-3 c);
+}
 
 pub sums_across-sums-requires : goal.sums_across-sums-requires
 sums_across-sums-requires c = record { in_range = c.requires.in_range; quarter_value = c.requires.quarter_value; k_lt_line_limit = c.requires.k_lt_line_limit }

@@ -9,21 +9,21 @@ returns-then-is_over c = rw (← c.is_over.ensures, ← c.is_over-2.ensures, c.i
 pub returns-then-is_within : goal.returns-then-is_within
 unfolding combined
 returns-then-is_within c = rw (
-      ← c.is_over.ensures,
-      ← c.is_over-2.ensures,
-      ← c.is_within.ensures,
-      ← c.is_within-2.ensures,
-      c.if-is_over.false,
-      c.if-is_within.true,
-    )
+  ← c.is_over.ensures,
+  ← c.is_over-2.ensures,
+  ← c.is_within.ensures,
+  ← c.is_within-2.ensures,
+  c.if-is_over.false,
+  c.if-is_within.true,
+)
 
 pub returns : goal.returns
 unfolding combined
 returns c = rw (
-      ← c.is_over.ensures,
-      ← c.is_over-2.ensures,
-      ← c.is_within.ensures,
-      ← c.is_within-2.ensures,
-      c.if-is_over.false,
-      c.if-is_within.false,
-    )
+  ← c.is_over.ensures,
+  ← c.is_over-2.ensures,
+  ← c.is_within.ensures,
+  ← c.is_within-2.ensures,
+  c.if-is_over.false,
+  c.if-is_within.false,
+)
