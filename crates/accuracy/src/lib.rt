@@ -1,2 +1,3 @@
 // Demand 3: how far what is reported may lie from the exact values; no code.
 #![tactic(auto)]
+

@@ -55,5 +55,5 @@ returns c = let a = c.args in record {
   value = the-refusal-3 c;
   lines_after = c.fill_alone.ensures
       ∙ ap (lines_from a.first (length a.lines.now)) (is-window-2 c)
-      ∙ sym (unless_refused-accepted _ _ _ (sym (the-refusal-3 c) ∙ c.if-refusal-ne-NO_REFUSAL.left));
+      ∙ sym (unless_refused-accepted _ _ _ (sym (the-refusal-3 c) ∙ c.if-refusal-ne-NO_REFUSAL.false));
 }

@@ -7,11 +7,11 @@ use Rattle.algebra.proofs.Signed.{sum-with-product}
 use Rattle.single_lines.proofs.alone.accumulate.Goals as goal
 
 is-product : (c : goal.After-product) → c.product.result ≡ c.args.number *ℤ c.args.wave
-is-product c = c.product.ensures ∙ ap₂ ◌*ℤ◌ (to_z-of_z w32 _ c.fits.number) (to_z-of_z w32 _ c.fits.wave)
+is-product c = c.product.ensures ∙ ap₂ ◌*ℤ◌ (to_z-of_z w32 _ c.ranges.number) (to_z-of_z w32 _ c.ranges.wave)
 
 pub overflow_add-result : goal.overflow_add-result
-overflow_add-result c = (sum-with-product _ _ c.args.sum _ _ c.fits.number c.fits.wave c.requires (to_z-of_z w64 _ c.fits.sum) (is-product c)).fits
+overflow_add-result c = (sum-with-product _ _ c.args.sum _ _ c.ranges.number c.ranges.wave c.requires (to_z-of_z w64 _ c.ranges.sum) (is-product c)).fits
 
 pub returns : goal.returns
 returns c = to_z-of_z w64 _ (overflow_add-result c)
-    ∙ (sum-with-product _ _ c.args.sum _ _ c.fits.number c.fits.wave c.requires (to_z-of_z w64 _ c.fits.sum) (is-product c)).is
+    ∙ (sum-with-product _ _ c.args.sum _ _ c.ranges.number c.ranges.wave c.requires (to_z-of_z w64 _ c.ranges.sum) (is-product c)).is

@@ -53,7 +53,7 @@ a-is-2 : (c : goal.After-rounded) → let a = c.args in
 a-is-2 c = rounded-read _ _ _ _ _ c.rounded.ensures (cosine-is-2 c) (cosine-small-2 c)
 
 pub overflow_cast-rounded : goal.overflow_cast-rounded
-overflow_cast-rounded c = (a-is-2 c).ranges
+overflow_cast-rounded c = (a-is-2 c).fits
 
 sine-small-2 : (c : goal.After-rounded-2) → nat_abs (line_sum table_sine c.args.window.now c.args.k) < 2 ^ 58
 sine-small-2 c = line_sum-le c.args.window.now c.requires.in_range.samples table_sine table_sine-le c.args.k
@@ -66,4 +66,4 @@ b-is-2 : (c : goal.After-rounded-2) → let a = c.args in
 b-is-2 c = rounded-read _ _ _ _ _ c.rounded-2.ensures (sine-is-2 c) (sine-small-2 c)
 
 pub overflow_cast-rounded-2 : goal.overflow_cast-rounded-2
-overflow_cast-rounded-2 c = (b-is-2 c).ranges
+overflow_cast-rounded-2 c = (b-is-2 c).fits

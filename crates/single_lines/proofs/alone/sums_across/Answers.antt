@@ -1,8 +1,8 @@
 use mathlib.Core.Path.{◌≡◌, refl, ap₂, ◌∙◌}
-use Prim.Native.Nat.{ℕ, ◌*◌, ◌-◌, ◌^◌, ◌<◌, ◌≤◌}
+use Prim.Native.Nat.{ℕ, ◌*◌, ◌-◌, ◌≤◌}
 use native.Mathlib.Nat.{mul-le-mul, le_of_lt}
 use native.Mathlib.Omega.{arith}
-use lib.IntN.{ℤ, nat_abs, ◌*ℤ◌}
+use lib.IntN.{ℤ, ◌*ℤ◌}
 use mathlib.Core.List.{List}
 use mir.Syntax.{w32, w64}
 use mir.Val.{to_z, of_z}
@@ -14,14 +14,8 @@ use Rattle.sine.specs.Wave.{table_sine, table_cosine}
 use Rattle.sine.proofs.Wave.{table_sine-le, table_cosine-le}
 use Rattle.single_lines.specs.Quarter.{cosine_across, sine_across}
 use Rattle.single_lines.proofs.QuarterSums.{cosine_across-small, sine_across-small, quarter-sum-small, place-added}
+use Rattle.single_lines.proofs.alone.sums_across.Invariants.{cosine_gives, sine_gives}
 use Rattle.single_lines.proofs.alone.sums_across.Goals as goal
-
--- what a place gives
-abbrev cosine_gives : List ℤ → ℕ → ℕ → ℤ
-cosine_gives window k j = cosine_across window k j *ℤ table_cosine (j * k)
-
-abbrev sine_gives : List ℤ → ℕ → ℕ → ℤ
-sine_gives window k j = sine_across window k j *ℤ table_sine (j * k)
 
 pub loop-j-init : goal.loop-j-init
 unfolding sum_to
@@ -38,12 +32,12 @@ j c = c.loop-j.j
 
 cosine-number : (c : goal.After-accumulate-sine) → to_z w32 (of_z w32 c.numbers_at-numbers.result.cosine) ≡ cosine_across (window c) (k c) (j c)
 cosine-number c =
-    read_as w32 _ _ (rw c.is_odd-odd.ensures c c.numbers_at-numbers.ensures.cosine_value)
+    read_as w32 _ _ (rw c.is_odd-odd.ensures at c.numbers_at-numbers.ensures.cosine_value)
     (omega (arith, cosine_across-small (window c) c.requires.in_range.samples (k c) (j c)))
 
 sine-number : (c : goal.After-accumulate-sine) → to_z w32 (of_z w32 c.numbers_at-numbers.result.sine) ≡ sine_across (window c) (k c) (j c)
 sine-number c =
-    read_as w32 _ _ (rw c.is_odd-odd.ensures c c.numbers_at-numbers.ensures.sine_value)
+    read_as w32 _ _ (rw c.is_odd-odd.ensures at c.numbers_at-numbers.ensures.sine_value)
     (omega (arith, sine_across-small (window c) c.requires.in_range.samples (k c) (j c)))
 
 pub loop-j-preserved : goal.loop-j-preserved
@@ -52,17 +46,17 @@ loop-j-preserved c = (
   omega arith,
   to_z-of_z w64 _ (record { sfits = c.accumulate-cosine.type_inv })
       ∙ c.accumulate-cosine.ensures
-      ∙ place-added (cosine_gives (window c) (k c)) (j c) _ _ c.loop-j.inv.0 c.loop-j.inv.2
+      ∙ place-added (cosine_gives (window c) (k c)) (j c) _ _ c.loop-j.invariant.0 c.loop-j.invariant.2
       (ap₂ ◌*ℤ◌ (cosine-number c) (to_z-of_z w32 _ (record { sfits = c.cosine_at.type_inv }) ∙ c.cosine_at.ensures)),
   to_z-of_z w64 _ (record { sfits = c.accumulate-sine.type_inv })
       ∙ c.accumulate-sine.ensures
-      ∙ place-added (sine_gives (window c) (k c)) (j c) _ _ c.loop-j.inv.0 c.loop-j.inv.3
+      ∙ place-added (sine_gives (window c) (k c)) (j c) _ _ c.loop-j.invariant.0 c.loop-j.invariant.3
       (ap₂ ◌*ℤ◌ (sine-number c) (to_z-of_z w32 _ (record { sfits = c.sine_at.type_inv }) ∙ c.sine_at.ensures)),
 )
 
 pub returns : goal.returns
 returns c = let all : c.loop-j.j - 1 ≡ 511 = omega (arith, c.loop-j.invariant.1) in
-    record { cosine_value = rw all c.loop-j.invariant.2; sine_value = rw all c.loop-j.invariant.3 }
+    record { cosine_value = rw all at c.loop-j.invariant.2; sine_value = rw all at c.loop-j.invariant.3 }
 
 pub numbers_at-numbers-requires : goal.numbers_at-numbers-requires
 numbers_at-numbers-requires c = record { in_range = c.requires.in_range; le_j = c.loop-j.invariant.0; j_lt_quarter_turn = omega arith }
@@ -91,13 +85,10 @@ k-3 c = c.args.k
 abbrev j-3 : (c : goal.After-struct_told-1) → ℕ
 j-3 c = c.loop-j.j
 
-cosine-small : (c : goal.After-struct_told-1) → nat_abs (to_z w64 c.loop-j.cosine) < 2 ^ 62
-cosine-small c =
+pub accumulate-cosine-requires : goal.accumulate-cosine-requires
+accumulate-cosine-requires c =
     rw c.loop-j.invariant.2
     (omega (arith, quarter-sum-small (cosine_across (window-2 c) (k-3 c)) (λ p. table_cosine (p * (k-3 c))) (cosine_across-small (window-2 c) c.requires.in_range.samples (k-3 c)) (λ p. table_cosine-le (p * (k-3 c))) ((j-3 c) - 1) (omega (arith, c.loop-j.invariant.1))))
-
-pub accumulate-cosine-requires : goal.accumulate-cosine-requires
-accumulate-cosine-requires c = cosine-small c
 
 abbrev j-4 : (c : goal.After-accumulate-cosine) → ℕ
 j-4 c = c.loop-j.j
@@ -123,10 +114,7 @@ k-5 c = c.args.k
 abbrev j-5 : (c : goal.After-struct_told-in-loop-j-1) → ℕ
 j-5 c = c.loop-j.j
 
-sine-small : (c : goal.After-struct_told-in-loop-j-1) → nat_abs (to_z w64 c.loop-j.sine) < 2 ^ 62
-sine-small c =
+pub accumulate-sine-requires : goal.accumulate-sine-requires
+accumulate-sine-requires c =
     rw c.loop-j.invariant.3
     (omega (arith, quarter-sum-small (sine_across (window-3 c) (k-5 c)) (λ p. table_sine (p * (k-5 c))) (sine_across-small (window-3 c) c.requires.in_range.samples (k-5 c)) (λ p. table_sine-le (p * (k-5 c))) ((j-5 c) - 1) (omega (arith, c.loop-j.invariant.1))))
-
-pub accumulate-sine-requires : goal.accumulate-sine-requires
-accumulate-sine-requires c = sine-small c

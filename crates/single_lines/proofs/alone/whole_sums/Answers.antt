@@ -93,7 +93,7 @@ sample-1024-2 c = to_z-of_z w32 _ (record { sfits = c.crossed-arg-2-1.given })
 
 ends-are : (c : goal.After-accumulate-2) → to_z w32 (of_z w32 c.crossed-ends.result) ≡ (ends c)
 ends-are c =
-    to_z-of_z w32 _ (record { sfits = c.crossed-ends.ok })
+    to_z-of_z w32 _ (record { sfits = c.crossed-ends.type_inv })
     ∙ c.crossed-ends.ensures
     ∙ ap₂ (across c.is_odd.result) (sample-0-2 c) (sample-1024-2 c)
     ∙ ap (λ odd. across odd (held_by (window-4 c) 0) (held_by (window-4 c) 1024)) c.is_odd.ensures
@@ -176,7 +176,7 @@ sample-1024-3 c = to_z-of_z w32 _ (record { sfits = c.crossed-arg-2-1.given })
 
 ends-are-2 : (c : goal.After-struct_told-2-1) → to_z w32 (of_z w32 c.crossed-ends.result) ≡ (ends-2 c)
 ends-are-2 c =
-    to_z-of_z w32 _ (record { sfits = c.crossed-ends.ok })
+    to_z-of_z w32 _ (record { sfits = c.crossed-ends.type_inv })
     ∙ c.crossed-ends.ensures
     ∙ ap₂ (across c.is_odd.result) (sample-0-3 c) (sample-1024-3 c)
     ∙ ap (λ odd. across odd (held_by (window-5 c) 0) (held_by (window-5 c) 1024)) c.is_odd.ensures

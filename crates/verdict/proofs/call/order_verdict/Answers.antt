@@ -37,8 +37,9 @@ returns-then-refusal-ne-NO_REFUSAL c =
 
 pub overflow_sub-place : goal.overflow_sub-place
 overflow_sub-place c =
-    (known c.args.observation c.args.question c.question_refusal-asked.ensures c.sound_fault_or-refusal.ensures
-    c.if-refusal-ne-NO_REFUSAL.false).order-ge
+    let k = known c.args.observation c.args.question c.question_refusal-asked.ensures c.sound_fault_or-refusal.ensures
+    c.if-refusal-ne-NO_REFUSAL.false in
+    omega (arith, k.order-ge)
 
 pub bounds-observation-place : goal.bounds-observation-place
 bounds-observation-place c =
