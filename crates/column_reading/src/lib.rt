@@ -1,4 +1,6 @@
 // Reading a number column. A text is a slice of bytes that the caller lends.
+#![tactic(auto)]
+
 ghost use Rattle.std.specs.Prelude.{true, cond, ◌≡◌, ◌≤◌, length, drop};
 ghost use Rattle.std.proofs.Math.Option.{none, some};
 ghost use Rattle.columns.specs.Column.{is_digit, are_digits, is_whole, place_value, whole_number, negative_number, after_blanks};

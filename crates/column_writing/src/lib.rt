@@ -1,5 +1,7 @@
 // Writing a number column of any width: blanks, a minus below 0, and the digits from the right. The
 // caller lends the buffer.
+#![tactic(auto)]
+
 ghost use Rattle.std.specs.Prelude.{◌++◌, ◌≡◌, ◌≤◌, ◌<◌, nat_abs, length, drop, replicate};
 ghost use Rattle.columns.specs.Text.{blank, AtEnd};
 ghost use Rattle.columns.specs.Column.{digit_byte, decimal_text, number_text, fits_column};

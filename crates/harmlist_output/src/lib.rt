@@ -1,6 +1,8 @@
 // What harmlist writes at the end of a reading: the listing, or only the line for a refusal. That it is
 // document 01's output of the whole input that was read is stated in specs/Follows.antt and proved in
 // proofs/.
+#![tactic(auto)]
+
 ghost use Rattle.std.specs.Prelude.{true, ◌≡◌, length};
 ghost use Rattle.refusals.specs.Answers.{answer};
 ghost use Rattle.listing.specs.Listing.{listing_text, listing_refusal, listing_exit};

@@ -1,5 +1,7 @@
 // The listing of the 40 orders, and the line that is written in place of it for a refusal. The
 // caller lends the buffer.
+#![tactic(auto)]
+
 mod listing;
 mod put;
 mod refusal_line;

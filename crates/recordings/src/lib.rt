@@ -2,6 +2,8 @@
 // A reading goes in by value and comes back by value. The caller lends the bytes of the input: the
 // first line to `begin`, then the lines of one window at a time to `take_block`. What is written at the
 // end of a reading, and that this is document 01's output of the whole input, is harmlist_output's.
+#![tactic(auto)]
+
 mod blocks;
 mod text_lines;
 
