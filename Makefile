@@ -4,8 +4,7 @@
 # All below target/.
 PROVED = target/proved
 ARCHIVE = target/staticlib/libkifsang.a
-# The crates whose functions the archive exports: an object of the archive for each.
-EXPORTING = exported_lines exported_windows exported_observe exported_limits exported_records exported_judgements exported_text
+HARMLIST = target/bin/harmlist
 EXAMPLES = target/examples/verdicts target/examples/report target/examples/three_seconds target/examples/panel
 CFLAGS = -std=c99 -O2 -Wall -Wextra -pedantic
 
@@ -17,13 +16,20 @@ all: $(EXAMPLES)
 $(PROVED): crates.txt $(shell find crates -type d -o -name '*.rt' -o -name '*.antt')
 	@echo "Proving what was not proved before; all of it takes some minutes."
 	@mkdir -p $(@D) && touch $@.begun
-	rt check accuracy worked_numbers
+	for crate in accuracy worked_numbers; do (cd crates/$$crate && rt check) && echo "$$crate proved" || exit 1; done
 	@mv $@.begun $@
 
-# The archive's own functions are proved once more, as each object is written.
+# The archive's own functions are proved as it is written.
 $(ARCHIVE): $(PROVED)
-	for crate in $(EXPORTING); do rt staticlib $$crate || exit 1; done
-	{ echo create $@; printf 'addlib $(@D)/lib%s.a\n' $(EXPORTING); echo save; } | $(AR) -M
+	@mkdir -p $(@D)
+	cd crates/kifsang && rt lib
+	cp crates/kifsang/out/libkifsang.a $@
+
+# rt builds a program as it runs it.
+$(HARMLIST): $(PROVED)
+	@mkdir -p $(@D)
+	cd crates/harmlist && rt run < stdin > /dev/null
+	cp crates/harmlist/out/harmlist $@
 
 target/examples/%: examples/c/%.c examples/c/verdict_word.h include/kifsang.h $(ARCHIVE)
 	@mkdir -p $(@D)
@@ -33,7 +39,7 @@ rust: $(ARCHIVE)
 	CARGO_TARGET_DIR=target/cargo cargo build --quiet --release --offline --examples --manifest-path bindings/rust/Cargo.toml
 
 clean:
-	rm -rf $(PROVED) target/staticlib target/examples target/cargo
+	rm -rf $(PROVED) target/staticlib target/bin target/examples target/cargo
 
 .PHONY: all rust clean
 .DELETE_ON_ERROR:
