@@ -19,7 +19,7 @@ pub returns-then-refusal-eq-NO_REFUSAL : goal.returns-then-refusal-eq-NO_REFUSAL
 returns-then-refusal-eq-NO_REFUSAL c = let a = c.args in
     let none = sym c.finish_refusal-refusal.ensures ∙ c.if-refusal-eq-NO_REFUSAL.true in
     let called = c.put_listing in
-    record { value = called.ensures.0 ∙ answer-listing a.reading a.output.now none; output_after = called.ensures.1 ∙ written-listing a.reading a.output.now none }
+    record { value = called.ensures.value ∙ answer-listing a.reading a.output.now none; output_after = called.ensures.output_after ∙ written-listing a.reading a.output.now none }
 
 pub slice_bounds-fill_refusal_line-end-2 : goal.slice_bounds-fill_refusal_line-end-2
 slice_bounds-fill_refusal_line-end-2 c = sym (length-take-le refusal_line_length c.args.output.now (omega arith))

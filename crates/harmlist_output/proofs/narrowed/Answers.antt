@@ -23,7 +23,7 @@ loop-i-preserved c = let inside : c.loop-i.i < order_count = omega arith in
     (omega arith, filled_more _ _ (replicate order_count 0) _ c.loop-i.invariant.1 _ inside refl)
 
 pub returns : goal.returns
-returns c = let values = c.args.t1 in
+returns c = let values = c.args.values in
     let end : c.loop-i.i ≡ order_count = omega arith in
     let long : length values ≡ order_count = search rules in
     filled-whole order_count (λ j. get_or values j 0) (replicate order_count 0) _ (rw end at c.loop-i.invariant.1) refl

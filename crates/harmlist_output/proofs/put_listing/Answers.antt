@@ -9,4 +9,4 @@ narrowed-smoothed-requires c = let o = c.args.reading.observation in
     none-above-of-get_d-le largest_value o.smoothed (λ i l. (sound-parts o c.requires).smoothed-le i)
 
 pub returns : goal.returns
-returns c = let all = rw c.narrowed-smoothed.ensures at c.fill_listing.ensures in record { value = all.0; output_after = all.1 }
+returns c = let all = rw c.narrowed-smoothed.ensures at c.fill_listing.ensures in record { value = all.value; output_after = all.buffer_after }

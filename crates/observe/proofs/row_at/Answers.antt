@@ -5,10 +5,10 @@ use Rattle.observe.proofs.row_at.Goals as goal
 
 pub returns-then-refusal-ne-NO_REFUSAL : goal.returns-then-refusal-ne-NO_REFUSAL
 unfolding row_calls
-returns-then-refusal-ne-NO_REFUSAL c = let called = c.spectrum_refusal in
-    rw (← called.ensures.0, ne_eqb _ _ c.if-refusal-ne-NO_REFUSAL.true, c.refused_row.ensures)
+returns-then-refusal-ne-NO_REFUSAL c = let called = c.spectrum-refusal in
+    rw (← called.ensures.value, ne_eqb _ _ c.if-refusal-ne-NO_REFUSAL.true, c.refused_row.ensures)
 
 pub returns : goal.returns
 unfolding row_calls
-returns c = let called = c.spectrum_refusal in
-    rw (← called.ensures.0, c.if-refusal-ne-NO_REFUSAL.false, ← called.ensures.1) c.group_row.ensures
+returns c = let called = c.spectrum-refusal in
+    rw (← called.ensures.value, c.if-refusal-ne-NO_REFUSAL.false, ← called.ensures.lines_after) c.group_row.ensures

@@ -9,4 +9,4 @@ returns-then-refusal-ne-NO_REFUSAL c = rw (← c.group_refusal-refusal.ensures, 
 
 pub returns : goal.returns
 unfolding group_answer
-returns c = rw (← c.group_refusal-refusal.ensures, c.if-refusal-ne-NO_REFUSAL.false, c.value_of_lem.ensures)
+returns c = rw (← c.group_refusal-refusal.ensures, c.if-refusal-ne-NO_REFUSAL.false, c.value_of.ensures)

@@ -1,5 +1,5 @@
 use mathlib.Core.Path.{◌≡◌, refl, sym, ◌∙◌}
-use Prim.Native.Nat.{◌-◌, ◌<◌}
+use Prim.Native.Nat.{◌<◌}
 use native.Mathlib.Omega.{arith}
 use lib.ListN.{replicate}
 use Rattle.algebra.specs.Lists.{tabulate}
@@ -20,7 +20,7 @@ value_of-requires c = group_refusal-of-place _ _ _ (omega arith) ∙ c.requires
 pub loop-i-preserved : goal.loop-i-preserved
 loop-i-preserved c = let inside : c.loop-i.i < order_count = omega arith in
     let refusal = group_refusal-of-place _ _ _ inside ∙ c.requires in
-    let value = c.value_of_lem.ensures ∙ sym (accepted-value _ _ _ _ refusal) in
+    let value = c.value_of.ensures ∙ sym (accepted-value _ _ _ _ refusal) in
     (omega arith, filled_more _ _ (replicate order_count 0) _ c.loop-i.invariant.1 _ inside value)
 
 pub returns : goal.returns

@@ -28,7 +28,7 @@ with-ends a t b between ends double e f g =
 
 pub returns-then-not-span : goal.returns-then-not-span
 returns-then-not-span c = let a = c.args in
-    c.wrapping_add_u64.ensures
+    c.wrapping_add_u64.ensures.value
     ∙ twice _ _ _ _ c.lines_total-all.ensures
     ∙ ap (λ n. n % 2 ^ 64) (sym (weighted_sum-whole_ends _ a.span (not-true _ c.if-not-span.true)))
 
@@ -51,11 +51,11 @@ by-ends f first count between head last ends double b h l e d =
 
 pub returns : goal.returns
 returns c = let a = c.args in
-    c.wrapping_add_u64-3.ensures
+    c.wrapping_add_u64-3.ensures.value
     ∙ by-ends _ _ _ _ _ _ _ _
     c.lines_total-between.ensures
-    c.line_at_lem.ensures
+    c.line_at.ensures
     c.line_at-2.ensures
-    c.wrapping_add_u64-ends.ensures
-    c.wrapping_add_u64-2.ensures
+    c.wrapping_add_u64-ends.ensures.value
+    c.wrapping_add_u64-2.ensures.value
     ∙ ap (λ n. n % 2 ^ 64) (sym (weighted_sum-half_ends _ a.span (not-false _ c.if-not-span.false) c.if-count-lt2.false))

@@ -18,7 +18,7 @@ pub loop-k-init : goal.loop-k-init
 loop-k-init c = (omega arith, omega arith, none_yet _ _)
 
 pub loop-k-preserved : goal.loop-k-preserved
-loop-k-preserved c = (omega arith, omega arith, c.wrapping_add_u64-sum.ensures ∙ one_more _ _ _ _ c.loop-k.invariant.0 c.loop-k.invariant.2)
+loop-k-preserved c = (omega arith, omega arith, c.wrapping_add_u64-sum.ensures.value ∙ one_more _ _ _ _ c.loop-k.invariant.0 c.loop-k.invariant.2)
 
 pub returns : goal.returns
 returns c = let all : c.loop-k.k ≡ c.args.end = omega arith in
