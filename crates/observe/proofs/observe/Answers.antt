@@ -27,42 +27,42 @@ module _
     (begins : at ≡ window_start start i) (none : answer.refusal ≡ no_refusal)
     (calls : calls_after kind setup recording start i ≡ answer) (row : found ≡ row_calls kind setup recording at)
   where
-  -- the calls for one window more are those of the turn
-  turn :
-      calls_after kind setup recording start (suc i)
-      ≡ unless_refused
-      found.refusal
-      (add_row_answer answer.observation found.row)
-      (record { refusal = found.refusal; observation = answer.observation })
-  turn =
-      let before = ap (λ (r : RecordAnswer). r.refusal) calls ∙ none in
-      rw (calls, ← begins, ← row) at (calls-next kind setup recording start i before)
+    -- the calls for one window more are those of the turn
+    turn :
+        calls_after kind setup recording start (suc i)
+        ≡ unless_refused
+        found.refusal
+        (add_row_answer answer.observation found.row)
+        (record { refusal = found.refusal; observation = answer.observation })
+    turn =
+        let before = ap (λ (r : RecordAnswer). r.refusal) calls ∙ none in
+        rw (calls, ← begins, ← row) at (calls-next kind setup recording start i before)
 
-  -- the turn's row is added
-  added :
-      (next : RecordAnswer) → found.refusal ≡ no_refusal → next ≡ add_row_answer answer.observation found.row →
-      calls_after kind setup recording start (suc i) ≡ next
-  added next accepted e = rw accepted at turn ∙ sym e
+    -- the turn's row is added
+    added :
+        (next : RecordAnswer) → found.refusal ≡ no_refusal → next ≡ add_row_answer answer.observation found.row →
+        calls_after kind setup recording start (suc i) ≡ next
+    added next accepted e = rw accepted at turn ∙ sym e
 
-  -- a refusal of the turn is the answer
-  refused-turn :
-      (windows refusal : ℕ) → suc i ≤ windows → (refusal ≡ no_refusal → ⊥) →
-      (calls_after kind setup recording start (suc i)).refusal ≡ refusal →
-      record { refusal = refusal; observation = refused_record } ≡ observe_answer kind setup recording start windows
-  refused-turn windows refusal inside refused e =
-      let count : windows - suc i + suc i ≡ windows = omega arith in
-      sym
-      (rw (count, e) at
-      (observe_answer-refused kind setup recording start (windows - suc i) (suc i) (λ none. refused (sym e ∙ none))))
+    -- a refusal of the turn is the answer
+    refused-turn :
+        (windows refusal : ℕ) → suc i ≤ windows → (refusal ≡ no_refusal → ⊥) →
+        (calls_after kind setup recording start (suc i)).refusal ≡ refusal →
+        record { refusal = refusal; observation = refused_record } ≡ observe_answer kind setup recording start windows
+    refused-turn windows refusal inside refused e =
+        let count : windows - suc i + suc i ≡ windows = omega arith in
+        sym
+        (rw (count, e) at
+        (observe_answer-refused kind setup recording start (windows - suc i) (suc i) (λ none. refused (sym e ∙ none))))
 
-  -- the next window begins within the recording where the turn is not refused
-  next-inside :
-      (next : RecordAnswer) → calls_after kind setup recording start (suc i) ≡ next → next.refusal ≡ no_refusal →
-      at + window_length ≤ length recording
-  next-inside next e accepted =
-      let follows = calls-follow kind setup recording start (suc i) in
-      let taken : (calls_after kind setup recording start (suc i)).refusal ≡ no_refusal = rw e accepted in
-      rw begins (window-inside setup recording start i (sym follows.refusal_is ∙ taken))
+    -- the next window begins within the recording where the turn is not refused
+    next-inside :
+        (next : RecordAnswer) → calls_after kind setup recording start (suc i) ≡ next → next.refusal ≡ no_refusal →
+        at + window_length ≤ length recording
+    next-inside next e accepted =
+        let follows = calls-follow kind setup recording start (suc i) in
+        let taken : (calls_after kind setup recording start (suc i)).refusal ≡ no_refusal = rw e accepted in
+        rw begins (window-inside setup recording start i (sym follows.refusal_is ∙ taken))
 
 pub returns-then-answer-ne-NO_REFUSAL : goal.returns-then-answer-ne-NO_REFUSAL
 unfolding calls_after fresh_answer

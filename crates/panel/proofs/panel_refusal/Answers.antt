@@ -9,6 +9,6 @@ use Rattle.panel.proofs.panel_refusal.Goals as goal
 pub returns : goal.returns
 unfolding window_refusal
 returns c = let a = c.args in
-    let window : c.window_refusal.result ≡ window_refusal a.recording.now a.start (not (eqb a.line-count panel_line_count)) =
+    let window : c.window_refusal.result ≡ window_refusal a.recording.now a.start (not (eqb a.line_count panel_line_count)) =
     c.window_refusal.ensures in
     rw (← window) c.setup_fault_or.ensures

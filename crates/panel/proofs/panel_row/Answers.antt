@@ -31,9 +31,12 @@ passed c = sym (the-refusal-2 c) ∙ c.if-refusal-ne-NO_REFUSAL.false
 pub returns : goal.returns
 unfolding panel_answer panel_exit window_row
 returns c = let a = c.args in
-    let kept : length c.panel_values-values.new.lines ≡ length a.lines.now = search rules in record { value = rw (the-refusal-2 c, passed c, c.panel_values-values.ensures); lines_after = c.clear.ensures
+    let kept : length c.panel_values-values.new.lines ≡ length a.lines.now = search rules in record {
+      value = rw (the-refusal-2 c, passed c, c.panel_values-values.ensures);
+      lines_after = c.clear.ensures
           ∙ ap (λ n. replicate n 0) (kept ∙ (panel-accepted _ _ _ _ (passed c)).line-count)
-          ∙ sym (unless_refused-accepted _ _ a.lines.now (passed c)) }
+          ∙ sym (unless_refused-accepted _ _ a.lines.now (passed c));
+    }
 
 the-refusal-3 : (c : goal.After-panel_values-arg-1) → let a = c.args in
     c.panel_refusal-refusal.result ≡ panel_refusal a.setup a.recording.now a.start a.lines.now

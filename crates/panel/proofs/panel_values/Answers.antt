@@ -1,6 +1,6 @@
 use mathlib.Core.List.{List}
 use mathlib.Core.Path.{◌≡◌, refl, sym, ap, ◌∙◌}
-use Prim.Native.Nat.{ℕ, ◌+◌, ◌-◌, ◌<◌}
+use Prim.Native.Nat.{ℕ, ◌+◌, ◌<◌}
 use native.Mathlib.Omega.{arith}
 use borrow.Author.Rules.{rules}
 use borrow.Rule.Slice.PartMut.{mid_of, post_of, put_mid, mid_len, same_len_mid}
@@ -10,22 +10,17 @@ use Rattle.algebra.specs.Lists.{tabulate}
 use Rattle.algebra.proofs.Filling.{filled_more, filled-whole}
 use Rattle.refusals.specs.Numbers.{no_refusal}
 use Rattle.rows.specs.Orders.{order_count}
-use Rattle.rows.specs.declared.Setup.{Setup}
 use Rattle.rows.proofs.Orders.{order-of-place}
 use Rattle.windows.specs.Window.{window_at}
 use Rattle.spectral_lines.specs.Line.{line_of, lines_from, lines_of}
 use Rattle.spectral_lines.proofs.Lines.{length-lines_from}
 use Rattle.kinds.specs.declared.Kind.TheVariants.{HarmonicGroup}
 use Rattle.spans.specs.Spans.{line_at}
-use Rattle.groups.specs.Group.{group_refusal, group_answer, group_values}
+use Rattle.groups.specs.Group.{group_refusal, group_values}
 use Rattle.panel.specs.Panel.{panel_line_count, first_line}
 use Rattle.groups.proofs.GroupSum.{group_refusal-of-place, accepted-value, window_row-accepted}
 use Rattle.panel.proofs.PanelLines.{PanelAccepted, panel-accepted, panel_refusal-length, holds_more, lines-alone-left, first_line-end}
 use Rattle.panel.proofs.panel_values.Goals as goal
-
--- the value at a place of the row
-abbrev value_at : Setup → List ℤ → ℕ → ℕ
-value_at setup window i = (group_answer HarmonicGroup setup (i + 1) (lines_of window)).value
 
 abbrev held : (c : goal.After-slice_known-2-1) → List ℕ
 held c = c.args.lines.now

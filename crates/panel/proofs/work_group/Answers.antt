@@ -117,10 +117,13 @@ worked-length c =
     ∙ (accepted-2 c).line-count
 
 pub returns : goal.returns
-returns c = let call = accepted-2 c in record { value = c.panel_value-value.ensures
-          ∙ panel-value c.args.setup c.args.order call.known-setup c.requires.order_value (window-2 c) (worked-2 c) (all_lines-2 c); lines_after = get_or-set_same (worked-2 c) 0 _ 0 (omega (arith, worked-length c))
-          ∙ all_lines-2 c (n-2 c) (omega arith)
-          ∙ ap (line_of (window-2 c)) (sym (first_line-next c.args.setup c.args.order call.known-setup c.requires.order_value)) }
+returns c = let call = accepted-2 c in record {
+  value = c.panel_value-value.ensures
+      ∙ panel-value c.args.setup c.args.order call.known-setup c.requires.order_value (window-2 c) (worked-2 c) (all_lines-2 c);
+  lines_after = get_or-set_same (worked-2 c) 0 _ 0 (omega (arith, worked-length c))
+      ∙ all_lines-2 c (n-2 c) (omega arith)
+      ∙ ap (line_of (window-2 c)) (sym (first_line-next c.args.setup c.args.order call.known-setup c.requires.order_value));
+}
 
 accepted-3 : (c : goal.After-first_line-second) → PanelAccepted c.args.setup c.args.recording.now c.args.start c.args.lines.now
 accepted-3 c = panel-accepted _ _ _ _ c.requires.lines_value

@@ -1,5 +1,6 @@
 -- `recordings::blocks::begin` meets its contract, by what the first line was read as.
 use mathlib.Core.Path.{◌≡◌, refl, ap, ◌∙◌}
+use borrow.Author.Rules.{rules}
 use mir.Facts.{to_z-of_z}
 use mir.Syntax.{w64}
 use Prim.Native.Nat.{ℕ}
@@ -14,7 +15,7 @@ use Rattle.recordings.proofs.blocks.begin.Goals as goal
 -- the fresh record is that of the number that was read
 fresh-is : (c : goal.After-fault_or) → c.fresh_record-fresh.result ≡ fresh_answer (setup_of (system_word c.number_on_line-number.result.value) edition2)
 fresh-is c =
-    let value = to_z-of_z {w = w64} {z = c.number_on_line-number.result.value} (record { sfits = c.struct_told-1.given.1.0.1 }) in
+    let value = to_z-of_z {w = w64} {z = c.number_on_line-number.result.value} (search rules) in
     c.fresh_record-fresh.ensures ∙ ap (λ (system : ℕ). fresh_answer (setup_of system edition2)) (c.system_word.ensures ∙ ap system_word value)
 
 pub returns : goal.returns

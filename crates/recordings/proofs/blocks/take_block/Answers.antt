@@ -23,7 +23,8 @@ unfolding block_of
 returns-then-reading-block c = rw c.if-reading-block.true
 
 pub read_samples-first-requires : goal.read_samples-first-requires
-read_samples-first-requires c = let all = rw c.block_lines.ensures (block_lines-fit c.args.block.now) in record { count_in_bounds = all.0; count_in_bounds_2 = all.1 }
+read_samples-first-requires c = let fit = block_lines-fit c.args.block.now in
+    record { count_in_bounds = rw c.block_lines.ensures fit.0; count_in_bounds_2 = rw c.block_lines.ensures fit.1 }
 
 -- the refusal of a block, by what its lines gave
 refusal-of : {block : List ℕ} {lines first rest refusal : ℕ} {before after : List ℤ}

@@ -1,5 +1,5 @@
 use mathlib.Core.Path.{◌≡◌, refl, sym, ap, ◌∙◌}
-use Prim.Native.Nat.{ℕ, ◌-◌}
+use Prim.Native.Nat.{ℕ}
 use native.Mathlib.Nat.{lt_of_le_of_lt}
 use native.Mathlib.Omega.{arith}
 use borrow.Author.Rules.{rules}
@@ -46,7 +46,7 @@ sample-is : (c : goal.After-struct_told-1) → to_z w64 (of_z w64 c.sample_on_li
 unfolding number_at
 sample-is c =
     let read = c.sample_on_line-sample in
-    to_z-of_z {w = w64} {z = read.result.value} (record { sfits = c.struct_told-1.given.1.0.1 })
+    to_z-of_z {w = w64} {z = read.result.value} (search rules)
     ∙ ap (λ (n : NumberAnswer). n.value) read.ensures
     ∙ sample_on-accepted (text_line_at c.args.block.now (line_of c)) (accepted c)
 

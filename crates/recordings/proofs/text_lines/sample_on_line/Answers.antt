@@ -3,6 +3,7 @@ use mathlib.Core.Bool.{Bool}
 use mathlib.Core.List.{List}
 use mathlib.Core.Path.{◌≡◌, refl, sym, ap, ◌∙◌}
 use Prim.Native.Nat.{ℕ}
+use borrow.Author.Rules.{rules}
 use mir.Facts.{to_z-of_z}
 use mir.Syntax.{w64}
 use mir.Val.{SFits, to_z, of_z}
@@ -24,11 +25,9 @@ tested line read fits read-is answer-is =
 pub returns-then-out_of_range : goal.returns-then-out_of_range
 returns-then-out_of_range c = let line = text_line_at c.args.text.now c.args.line in
     let read = c.number_on_line-number in
-    let fits = record { sfits = c.struct_told-1.given.1.0.1 } in
-    sample_on-out line (text_line_number line) refl (tested line read.result fits read.ensures c.out_of_range.ensures ∙ c.if-out_of_range.true)
+    sample_on-out line (text_line_number line) refl (tested line read.result (search rules) read.ensures c.out_of_range.ensures ∙ c.if-out_of_range.true)
 
 pub returns : goal.returns
 returns c = let line = text_line_at c.args.text.now c.args.line in
     let read = c.number_on_line-number in
-    let fits = record { sfits = c.struct_told-1.given.1.0.1 } in
-    read.ensures ∙ sample_on-in line (text_line_number line) refl (tested line read.result fits read.ensures c.out_of_range.ensures ∙ c.if-out_of_range.false)
+    read.ensures ∙ sample_on-in line (text_line_number line) refl (tested line read.result (search rules) read.ensures c.out_of_range.ensures ∙ c.if-out_of_range.false)
