@@ -55,15 +55,15 @@ latest-of-record words =
     omega (arith, unpacked-length (words_from latest_place latest_words words), words_from-length latest_place latest_words words)
 
 -- a record is the one of its parts
-of_parts : (o : Observation) → Whole o → of_parts (λ word. word) (parts_of o) ≡ o
+parts-of_parts : (o : Observation) → Whole o → of_parts (λ word. word) (parts_of o) ≡ o
 unfolding of_parts parts_of
-of_parts o whole = rw (unpacked-packed o.latest latest_words whole.latest whole.latest-fit)
+parts-of_parts o whole = rw (unpacked-packed o.latest latest_words whole.latest whole.latest-fit)
 
 -- and the one that its words hold
 pub record-of-words : (o : Observation) → Whole o → record_of (words_of o) ≡ o
 unfolding words_of record_of of_parts
 record-of-words o whole =
-    rw (← whole.parts, parts_from-joined [] (parts_of o)) (of_parts o whole)
+    rw (← whole.parts, parts_from-joined [] (parts_of o)) (parts-of_parts o whole)
 
 -- its words are its parts, each put after those before it
 pub words_of-parts :

@@ -60,7 +60,7 @@ returns c = let a = c.args in
     _
     whole.0
     answered
-    c.hand_over_record.ensures in
+    (c.hand_over_record.ensures.value, c.hand_over_record.ensures.words_after) in
     rw passed (record {
       value = handed.0 ∙ record_read-same (λ o. add_row_refusal o row) unsound_record (λ o unsound. rw unsound) words;
       words_after = handed.1 ∙

@@ -17,8 +17,8 @@ pub returns : goal.returns
 unfolding fresh_call_refusal fresh_call_exit fresh_answer
 returns c = let a = c.args in
     let passed = sym c.fault_or-own.ensures ∙ c.if-own-ne-NO_REFUSAL.false in
-    let all = rw passed
-    (handed-record
+    let handed =
+    handed-record
     (λ (x : Observation). x)
     (fresh_refusal (setup_of a.system a.edition))
     (empty_record (setup_of a.system a.edition))
@@ -29,4 +29,5 @@ returns c = let a = c.args in
     _
     (count-passed record_words _ a.words.now passed).0
     c.fresh_record.ensures
-    c.hand_over_record.ensures) in record { value = all.0; words_after = all.1 }
+    (c.hand_over_record.ensures.value, c.hand_over_record.ensures.words_after) in
+    rw passed (record { value = handed.0; words_after = handed.1 })

@@ -17,20 +17,21 @@ last-kind (suc (suc (suc (suc (suc n))))) a b c d = refl
 
 pub returns-in-0 : goal.returns-in-0
 unfolding kind_with kinds
-returns-in-0 c = rw c.in-0.keys1
+returns-in-0 c = rw c.in-0.is
 
 pub returns-in-1 : goal.returns-in-1
 unfolding kind_with kinds
-returns-in-1 c = rw c.in-1.keys2
+returns-in-1 c = rw c.in-1.is
 
 pub returns-in-2 : goal.returns-in-2
 unfolding kind_with kinds
-returns-in-2 c = rw c.in-2.keys3
+returns-in-2 c = rw c.in-2.is
 
 pub returns-in-3 : goal.returns-in-3
 unfolding kind_with kinds
-returns-in-3 c = rw c.in-3.keys4
+returns-in-3 c = rw c.in-3.is
 
 pub returns-in_default : goal.returns-in_default
-returns-in_default c = let rest = c.in_default.rest in
-    last-kind _ rest.0.0.0.1 rest.0.0.1 rest.0.1 rest.1
+returns-in_default c =
+    let others = c.in_default.in_default-own.rest in
+    last-kind _ others.0.0.0.1 others.0.0.1 others.0.1 others.1

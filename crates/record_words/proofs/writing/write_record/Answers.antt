@@ -21,4 +21,4 @@ returns c = let words = c.put_halves.new.words in
       c.put_part-2.ensures,
       c.put_part.ensures,
     )
-    (words_of-parts c.args.t1)
+    (words_of-parts c.args.observation)
