@@ -24,7 +24,7 @@ use Rattle.spans.specs.Spans.{Weighted, weights_of, total_twice_weight, weighted
 use Rattle.groups.specs.Group.{value_over, group_refusal, group_answer, group_value}
 use Rattle.groups.proofs.GroupSum.{accepted-value}
 use Rattle.spans.proofs.Weights.{weights_of-total-le, weighted_sum-le-total}
-use Rattle.accuracy.proofs.AcceptedWindows.{window-in-range, lines_left}
+use Rattle.accuracy.proofs.AcceptedWindows.{window-in-range, lines_left as lines-left}
 use Rattle.accuracy.proofs.Places.{rounded_sums, places_of, squares-at, value-root, value-within}
 use Rattle.accuracy.proofs.GroupDistance.{is-order, lines-accepted, lines-of-group}
 use Rattle.glitch.specs.Windows.{AcceptedWindow, samples_of, lines_left, AlikeBut, glitch_size}
@@ -84,14 +84,14 @@ module _ (w : AcceptedWindow) where
   module _ (setup : Setup) (order : ℕ) (known : is_setup setup ≡ true) (known-order : is_order order ≡ true) where
     pub answered : group_refusal setup order (lines_left w) ≡ no_refusal
     answered =
-        rw (lines_left w.recording w.start w.buffer w.accepted)
+        rw (lines-left w.recording w.start w.buffer w.accepted)
         (lines-accepted setup order (samples_of w) known known-order in-range)
 
     pub answered-value : (kind : Kind) → (group_answer kind setup order (lines_left w)).value ≡ value_over (weights_of kind setup order) (line_of (samples_of w))
     unfolding group_value value_over
     answered-value kind =
         accepted-value kind setup order (lines_left w) answered
-        ∙ rw (lines_left w.recording w.start w.buffer w.accepted, lines-of-group kind setup order (samples_of w) known known-order)
+        ∙ rw (lines-left w.recording w.start w.buffer w.accepted, lines-of-group kind setup order (samples_of w) known known-order)
 
 -- every group is an instance: its weights add up to at most 12, and its lines stand in the spectrum
 pub groups-bounded : GroupsBounded group_shift
