@@ -1,5 +1,5 @@
 -- What the private functions of the reading are asked. No public contract cites it.
-use Rattle.std.specs.Prelude.{cond, List, ◌++◌, ◌≡◌, ℕ, ◌+◌, ltb, ℤ, pos, negsuc, drop}
+use Rattle.std.specs.Prelude.{cond, List, ◌++◌, ◌≡◌, ℕ, ltb, ℤ, pos, negsuc, drop}
 use Rattle.algebra.specs.Lists.{tabulate}
 use Rattle.refusals.specs.Numbers.{no_refusal}
 use Rattle.refusals.specs.Answers.{unless_refused}
