@@ -8,5 +8,5 @@ use Rattle.harmlist.proofs.read_block.Goals as goal
 
 pub returns : goal.returns
 returns c = let full = c.read_full-bytes in
-    let room : length full.new.0 ≡ window_bytes = omega (arith, full.auto) in
-    bytes_read window_bytes _ full.new.0 full.result.count _ room full.ensures refl c.take_block-reading.ensures
+    let room : length full.new.buffer ≡ window_bytes = omega (arith, full.auto.buffer) in
+    bytes_read window_bytes _ full.new.buffer full.result.count _ room full.ensures refl c.take_block-reading.ensures

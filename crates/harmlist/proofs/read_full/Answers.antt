@@ -1,4 +1,3 @@
-use Prim.Native.Nat.{◌-◌}
 use borrow.Author.Rules.{rules}
 use Rattle.harmlist.proofs.Blocks.{prefix_len-of_le}
 use Rattle.harmlist.proofs.read_full.Goals as goal
