@@ -24,10 +24,10 @@ unfolding observe_call_refusal observe_call_exit observe_answer
 returns c = let a = c.args in
     let passed = sym c.own_refusal-own.ensures ∙ c.if-own-ne-NO_REFUSAL.false in
     let counted = (no-fault (kind_check a.kind).0 unknown_kind _ (omega arith) passed).1 in
-    let answered : c.observe_answer.result ≡ observe_answer (kind_with a.kind) (setup_of a.system a.edition) a.recording.now a.start a.windows =
-    rw (← c.kind_with.ensures) c.observe_answer.ensures in
-    let all = rw passed
-    (handed-record
+    let answered : c.observe-answer.result ≡ observe_answer (kind_with a.kind) (setup_of a.system a.edition) a.recording.now a.start a.windows =
+    rw (← c.kind_with.ensures) c.observe-answer.ensures in
+    let handed =
+    handed-record
     (λ (x : Observation). x)
     (observe_refusal (setup_of a.system a.edition) a.recording.now a.start a.windows)
     (record_after (empty_record (setup_of a.system a.edition)) (window_rows (kind_with a.kind) (setup_of a.system a.edition) a.recording.now a.start a.windows))
@@ -38,4 +38,5 @@ returns c = let a = c.args in
     _
     (count-passed record_words no_refusal a.words.now counted).0
     answered
-    c.hand_over_record.ensures) in record { value = all.0; words_after = all.1 }
+    (c.hand_over_record.ensures.value, c.hand_over_record.ensures.words_after) in
+    rw passed (record { value = handed.0; words_after = handed.1 })

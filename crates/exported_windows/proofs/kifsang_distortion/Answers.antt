@@ -18,8 +18,8 @@ returns c = let a = c.args in
     let whole = (count-passed order_count _ a.values.now passed).0 in
     let answered : c.distortion.result ≡ distortion_answer a.values.now =
     rw (← first_values-whole a.values.now whole, ← c.first_values.ensures) c.distortion.ensures in
-    let all = rw passed
-    (handed-answer
+    let handed =
+    handed-answer
     (distortion_answer a.values.now).refusal
     (distortion_of a.values.now)
     a.parts_per_thousand.now
@@ -27,4 +27,5 @@ returns c = let a = c.args in
     _
     _
     answered
-    c.hand_over.ensures) in record { value = all.0; parts_per_thousand_after = all.1 }
+    (c.hand_over.ensures.value, c.hand_over.ensures.value_after) in
+    rw passed (record { value = handed.0; parts_per_thousand_after = handed.1 })

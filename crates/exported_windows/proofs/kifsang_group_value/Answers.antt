@@ -28,8 +28,8 @@ returns c = let a = c.args in
     let passed : first_fault (kind_check a.kind ∷ []) ≡ no_refusal = sym (own-2 c) ∙ c.if-own-ne-NO_REFUSAL.false in
     let answered : c.group_value.result ≡ group_answer (kind_with a.kind) (setup_of a.system a.edition) a.order a.lines.now =
     rw (← c.kind_with.ensures) c.group_value.ensures in
-    let all = rw passed
-    (handed-answer
+    let handed =
+    handed-answer
     (group_refusal (setup_of a.system a.edition) a.order a.lines.now)
     (group_value (kind_with a.kind) (setup_of a.system a.edition) a.order a.lines.now)
     a.value.now
@@ -37,4 +37,5 @@ returns c = let a = c.args in
     _
     _
     answered
-    c.hand_over.ensures) in record { value = all.0; value_after = all.1 }
+    (c.hand_over.ensures.value, c.hand_over.ensures.value_after) in
+    rw passed (record { value = handed.0; value_after = handed.1 })

@@ -20,9 +20,11 @@ returns-then-own-ne-NO_REFUSAL c = let all = own-refused _ _ _ _ _ c.own_refusal
 pub returns : goal.returns
 unfolding row_call_refusal row_call_exit group_row_answer
 returns c = let a = c.args in
-    let answered : c.group_row_answer.result ≡ group_row_answer (kind_with a.kind) (setup_of a.system a.edition) a.lines.now =
-    rw (← c.kind_with.ensures) c.group_row_answer.ensures in
+    let answered : c.group_row-answer.result ≡ group_row_answer (kind_with a.kind) (setup_of a.system a.edition) a.lines.now =
+    rw (← c.kind_with.ensures) c.group_row-answer.ensures in
     let passed = sym c.own_refusal-own.ensures ∙ c.if-own-ne-NO_REFUSAL.false in
     let room = (count-passed order_count no_refusal a.values.now (no-fault (kind_check a.kind).0 unknown_kind _ (omega arith) passed).1).0 in
     let whole = words_from-whole (group_values (kind_with a.kind) (setup_of a.system a.edition) a.lines.now) order_count (group_values-length _ _ _) in
-    let all = rw passed (rw (answered, group_row_answer-values, room, whole) at c.hand_over_row.ensures) in record { value = all.0; values_after = all.1 }
+    let handed =
+    rw (answered, group_row_answer-values, room, whole) at c.hand_over_row.ensures in
+    rw passed (record { value = handed.value; values_after = handed.values_after })

@@ -29,7 +29,7 @@ returns c = let a = c.args in
     _
     _
     answered
-    c.hand_over.ensures in
+    (c.hand_over.ensures.value, c.hand_over.ensures.value_after) in
     rw passed (record {
       value = received.0 ∙ record_read-same (λ o. three_second_refusal o a.order) unsound_record (λ o unsound. rw unsound) words;
       value_after = received.1 ∙

@@ -7,7 +7,7 @@ use Rattle.exported_judgements.proofs.verdict_call.hand_over_verdict.Goals as go
 
 pub returns-in-Given : goal.returns-in-Given
 unfolding refusal_number number_left
-returns-in-Given c = let given = c.answer-1.given.1 in rw given (record { value = refl; verdict_after = c.verdict_number.ensures })
+returns-in-Given c = rw c.in-Given.is (record { value = refl; verdict_after = c.verdict_number.ensures })
 
 pub returns-in-Refused : goal.returns-in-Refused
 unfolding refusal_number number_left

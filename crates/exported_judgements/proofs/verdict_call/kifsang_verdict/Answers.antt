@@ -26,10 +26,10 @@ returns c = let a = c.args in
     let handed = rw answered at c.hand_over_verdict.ensures in
     let received = verdict-received (record_read words) q a.verdict.now in
     rw passed (record {
-      value = handed.0 ∙
+      value = handed.value ∙
           (received.0 ∙
           record_read-same (λ o. verdict_refusal o q) unsound_record (λ o unsound. rw unsound) words);
-      verdict_after = handed.1 ∙
+      verdict_after = handed.verdict_after ∙
           (received.1 ∙
           record_read-same
           (λ o.

@@ -35,9 +35,9 @@ returns c = let a = c.args in
     let room = (count-passed order_count no_refusal a.values.now passed).0 in
     let handed = rw (c.panel_row-answer.ensures.value, room) at c.hand_over_row.ensures in
     rw passed (record {
-      value = handed.0;
+      value = handed.value;
       lines_after = c.panel_row-answer.ensures.lines_after;
-      values_after = handed.1
+      values_after = handed.values_after
           ∙ received-eq (λ (row : Row). words_from 0 order_count row.values) refusal (window_row HarmonicGroup setup window) refused_row a.values.now
           ∙ ap (λ values. unless_refused refusal values a.values.now) (words_from-whole _ order_count (group_values-length HarmonicGroup setup (lines_of window)));
     })

@@ -4,4 +4,4 @@ use mir.Facts.{to_z-of_z}
 use Rattle.exported_text.proofs.column_calls.kifsang_write_column.Goals as goal
 
 pub returns : goal.returns
-returns c = let all = rw (to_z-of_z {w = w64} c.ranges.number) at c.write_column.ensures in record { value = all.0; buffer_after = all.1 }
+returns c = let all = rw (to_z-of_z {w = w64} c.ranges.number) at c.write_column.ensures in record { value = all.value; buffer_after = all.buffer_after }

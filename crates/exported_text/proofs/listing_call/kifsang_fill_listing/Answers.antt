@@ -47,6 +47,6 @@ returns c = let a = c.args in
     let text = listing_text group subgroup smoothed in
     let passed = sym (own-2 c) ∙ c.if-own-ne-NO_REFUSAL.false in
     let filled = c.fill_listing-answer.ensures in
-    let handed = handed-answer (listing_refusal buffer) (length text) a.written.now _ _ _ filled.0 c.hand_over.ensures in
+    let handed = handed-answer (listing_refusal buffer) (length text) a.written.now _ _ _ filled.value (c.hand_over.ensures.value, c.hand_over.ensures.value_after) in
     let written = received-eq (λ (x : List ℕ). x) (listing_refusal buffer) (text ++ drop (length text) buffer) buffer buffer in
-    rw passed (record { value = handed.0; buffer_after = rw written filled.1; written_after = handed.1 })
+    rw passed (record { value = handed.0; buffer_after = rw written filled.buffer_after; written_after = handed.1 })
