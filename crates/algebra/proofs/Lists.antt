@@ -99,8 +99,8 @@ module _ {ℓ} {A : Type ℓ} where
   any_of-false passes (x ∷ xs) d e = rw (e 0 (omega arith)) (any_of-false passes xs d (λ i h. e (suc i) (omega arith)))
 
 -- no entry above m, also none past the end
-pub get_d-tabulate-le : (n : ℕ) (f : ℕ → ℕ) (m : ℕ) → ((i : ℕ) → i < n → f i ≤ m) → (i : ℕ) → get_or (tabulate n f) i 0 ≤ m
-get_d-tabulate-le n f m h i = by_place (dec_lt i n)
+pub get_or-tabulate-le : (n : ℕ) (f : ℕ → ℕ) (m : ℕ) → ((i : ℕ) → i < n → f i ≤ m) → (i : ℕ) → get_or (tabulate n f) i 0 ≤ m
+get_or-tabulate-le n f m h i = by_place (dec_lt i n)
   where
     by_place : Dec (i < n) → get_or (tabulate n f) i 0 ≤ m
     by_place (yes inside) = rw (get_or-tabulate n f i 0 inside) (h i inside)

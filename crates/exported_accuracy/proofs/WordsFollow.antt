@@ -32,7 +32,7 @@ use Rattle.observation.specs.BookCalls.{accepted_calls, AcceptedFit}
 use Rattle.observation.specs.Calls.{empty_record, fresh_refusal, with_row, add_row_refusal, add_row_answer}
 use Rattle.observation.specs.RecordAfter.{record_after}
 use Rattle.observation.proofs.RecordAfter.{record-after-snoc}
-use Rattle.records.proofs.NoneAbove.{get_d-le-of-none-above}
+use Rattle.records.proofs.NoneAbove.{get_or-le-of-none-above}
 use Rattle.latest_rows.proofs.Latest.{length-with_latest, with_latest-le}
 use Rattle.observation.proofs.SoundRecord.{by-acceptance, answer-sound, empty-record-sound, fresh-of-known}
 use Rattle.observe.specs.Observe.{window_rows, observe_refusal}
@@ -92,7 +92,7 @@ record-after-parts o (row ∷ rows) before =
 -- ---- and whose latest rows hold values of 32 bits
 
 zero-fits : (values : List ℕ) → none_above 0 values ≡ true → (i : ℕ) → get_or values i 0 < half_base
-zero-fits values zeros i = omega (arith, get_d-le-of-none-above 0 values i zeros)
+zero-fits values zeros i = omega (arith, get_or-le-of-none-above 0 values i zeros)
 
 empty-whole : (setup : Setup) → Whole (empty_record setup)
 unfolding empty_record none_above any_of

@@ -15,9 +15,9 @@ unfolding words_from
 words_from-length place count words = length-tabulate count _
 
 -- the word at a place of them
-pub get_d-words_from : (place count : ℕ) (words : List ℕ) (i : ℕ) → i < count → get_or (words_from place count words) i 0 ≡ get_or words (place + i) 0
+pub get_or-words_from : (place count : ℕ) (words : List ℕ) (i : ℕ) → i < count → get_or (words_from place count words) i 0 ≡ get_or words (place + i) 0
 unfolding words_from
-get_d-words_from place count words i inside = get_or-tabulate count (λ j. get_or words (place + j) 0) i 0 inside
+get_or-words_from place count words i inside = get_or-tabulate count (λ j. get_or words (place + j) 0) i 0 inside
 
 -- one word
 pub words_from-one : (place : ℕ) (words : List ℕ) → get_or (words_from place 1 words) 0 0 ≡ get_or words place 0

@@ -10,7 +10,7 @@ use Rattle.rows.specs.Orders.{order_count}
 use Rattle.rows.specs.Rows.{largest_value}
 use Rattle.records.specs.declared.Observation.{Observation}
 use Rattle.records.specs.Soundness.{most_windows, none_above, sound_tests, is_sound}
-use Rattle.records.proofs.NoneAbove.{get_d-le-of-none-above}
+use Rattle.records.proofs.NoneAbove.{get_or-le-of-none-above}
 
 pub record SoundParts (o : Observation) : Type 0 where
   pub setup-known : is_setup o.setup ≡ true
@@ -27,8 +27,8 @@ sound-parts o e =
     record {
       setup-known = passed 0;
       windows-le = leb-true _ _ (passed 1);
-      sum-le = λ i. get_d-le-of-none-above _ _ i (passed 2);
-      peak-le = λ i. get_d-le-of-none-above _ _ i (passed 3);
-      smoothed-le = λ i. get_d-le-of-none-above _ _ i (passed 4);
+      sum-le = λ i. get_or-le-of-none-above _ _ i (passed 2);
+      peak-le = λ i. get_or-le-of-none-above _ _ i (passed 3);
+      smoothed-le = λ i. get_or-le-of-none-above _ _ i (passed 4);
       zeros-to-come = passed 6;
     }

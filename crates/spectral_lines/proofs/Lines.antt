@@ -9,7 +9,7 @@ use lib.Dec.{ltb}
 use lib.IntN.{ℤ}
 use lib.ListN.{length, get_or}
 use Rattle.algebra.specs.Lists.{any_of}
-use Rattle.algebra.proofs.Lists.{length-tabulate, get_or-tabulate, get_d-tabulate-le, any_of-false}
+use Rattle.algebra.proofs.Lists.{length-tabulate, get_or-tabulate, get_or-tabulate-le, any_of-false}
 use Rattle.spectral_lines.specs.Line.{line_count, line_of, largest_line, lines_from, lines_of}
 use Rattle.windows.specs.Window.{out_of_range}
 use Rattle.spectral_lines.proofs.Bounds.{line-le}
@@ -19,16 +19,16 @@ module _ (first count : ℕ) (window : List ℤ) where
   unfolding lines_from
   length-lines_from = length-tabulate count (λ i. line_of window (first + i))
 
-  pub get_d-lines_from : (i : ℕ) → i < count → get_or (lines_from first count window) i 0 ≡ line_of window (first + i)
+  pub get_or-lines_from : (i : ℕ) → i < count → get_or (lines_from first count window) i 0 ≡ line_of window (first + i)
   unfolding lines_from
-  get_d-lines_from i h = get_or-tabulate count (λ i. line_of window (first + i)) i 0 h
+  get_or-lines_from i h = get_or-tabulate count (λ i. line_of window (first + i)) i 0 h
 
   -- no line is ever refused as too large, also none past the end
   module _ (in-range : any_of out_of_range window ≡ false) where
     pub lines_from-le : (i : ℕ) → get_or (lines_from first count window) i 0 ≤ largest_line
     unfolding lines_from
     lines_from-le =
-        get_d-tabulate-le count (λ i. line_of window (first + i)) largest_line (λ i h. line-le window in-range (first + i))
+        get_or-tabulate-le count (λ i. line_of window (first + i)) largest_line (λ i h. line-le window in-range (first + i))
 
     pub lines_from-taken : any_of (ltb largest_line) (lines_from first count window) ≡ false
     lines_from-taken =
@@ -41,9 +41,9 @@ pub length-lines_of : (window : List ℤ) → length (lines_of window) ≡ line_
 unfolding lines_of
 length-lines_of = length-lines_from 0 line_count
 
-pub get_d-lines_of : (window : List ℤ) (k : ℕ) → k < line_count → get_or (lines_of window) k 0 ≡ line_of window k
+pub get_or-lines_of : (window : List ℤ) (k : ℕ) → k < line_count → get_or (lines_of window) k 0 ≡ line_of window k
 unfolding lines_of
-get_d-lines_of window k h = get_d-lines_from 0 line_count window k h ∙ ap (line_of window) (zero-add k)
+get_or-lines_of window k h = get_or-lines_from 0 line_count window k h ∙ ap (line_of window) (zero-add k)
 
 pub no-line-too-large : (window : List ℤ) → any_of out_of_range window ≡ false → any_of (ltb largest_line) (lines_of window) ≡ false
 unfolding lines_of

@@ -15,7 +15,7 @@ use Rattle.sine.specs.ExactSine.{factorial, denominator, term, added, taken_away
 use Rattle.sine.specs.Wave.{table_entry}
 use Rattle.spectral_lines.specs.Line.{line_count, line_of, lines_of}
 use Rattle.windows.specs.Window.{InRange}
-use Rattle.spectral_lines.proofs.Lines.{get_d-lines_of}
+use Rattle.spectral_lines.proofs.Lines.{get_or-lines_of}
 use Rattle.spectral_lines.proofs.Pulse as Pulse
 use Rattle.spectral_lines.proofs.Pulse.{pulse-line}
 use Rattle.kinds.specs.Kinds.{span_of, grouped_as}
@@ -55,7 +55,7 @@ unfolding pulse Pulse.pulse
 line-of-pulse = pulse-line
 
 pulse-line-at : (k : ℕ) → k < line_count → get_or (lines_of pulse) k 0 ≡ 4000000
-pulse-line-at k h = get_d-lines_of pulse k h ∙ line-of-pulse k
+pulse-line-at k h = get_or-lines_of pulse k h ∙ line-of-pulse k
 
 pulse-in-range : InRange pulse
 unfolding pulse Pulse.pulse

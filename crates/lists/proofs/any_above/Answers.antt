@@ -1,10 +1,9 @@
 use mathlib.Core.Path.{◌≡◌, refl, sym, ◌∙◌}
-use Prim.Native.Nat.{◌<◌, ◌-◌}
+use Prim.Native.Nat.{◌<◌}
 use native.Mathlib.Omega.{arith}
 use borrow.Author.Tests.{lt-ltb, le-ltb}
 use lib.Dec.{ltb}
-use lib.ListN.{length, drop}
-use Rattle.algebra.specs.Lists.{any_of}
+use lib.ListN.{length}
 use Rattle.algebra.proofs.Lists.{any_of-drop, any_of-here, any_of-end}
 use Rattle.lists.proofs.any_above.Goals as goal
 

@@ -6,7 +6,7 @@ use Rattle.algebra.specs.Lists.{tabulate}
 use Rattle.algebra.proofs.Filling.{filled_more, filled-whole}
 use Rattle.latest_rows.specs.Latest.{values_kept}
 use Rattle.lists.specs.LentWords.{words_from}
-use Rattle.lists.proofs.LentWords.{words_from-length, get_d-words_from}
+use Rattle.lists.proofs.LentWords.{words_from-length, get_or-words_from}
 use Rattle.record_words.specs.Halves.{half_base}
 use Rattle.record_words.specs.Words.{latest_words}
 use Rattle.record_words.proofs.Halves.{half_at, half-even, half-odd, unpacked-places}
@@ -29,7 +29,7 @@ pub loop-k-preserved : goal.loop-k-preserved
 loop-k-preserved c = let a = c.args in
     let k = c.loop-k.k in
     let word : get_or (words_from a.place latest_words a.words.now) k 0 ≡ c.word_at-word.result =
-    get_d-words_from a.place latest_words a.words.now k (omega arith) ∙ sym c.word_at-word.ensures in
+    get_or-words_from a.place latest_words a.words.now k (omega arith) ∙ sym c.word_at-word.ensures in
     let low : c.word_at-word.result % half_base ≡ Halves c (2 * k) = rw (half-even _ k, word) in
     let high : c.word_at-word.result / half_base ≡ Halves c (2 * k + 1) = rw (half-odd _ k, word) in
     let room = c.requires.values_len in
