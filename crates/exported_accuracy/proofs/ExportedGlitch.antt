@@ -19,7 +19,7 @@ use Rattle.groups.proofs.GroupSum.{accepted, accepted-value, group_refusal-of-pl
 use Rattle.observation.specs.Calls.{next_book, with_row, add_row_refusal, add_row_answer}
 use Rattle.observation.proofs.SoundRecord.{add_row_answer-accepted}
 use Rattle.accuracy.specs.Distance.{EveryOrder}
-use Rattle.glitch.specs.Windows.{AcceptedWindow, samples_of, lines_left, AlikeBut, glitch_size}
+use Rattle.glitch.specs.Windows.{AcceptedWindow, samples_of, lines_left, glitch_size}
 use Rattle.glitch.specs.Claim.{smoothed_shift, Apart, GroupsBounded, row_of, smoothed_in, SmoothedApart, SmoothedBounded}
 use Rattle.glitch.proofs.Glitch.{glitch}
 use Rattle.exported_answers.specs.OwnChecks.{word_count_check}
@@ -90,10 +90,12 @@ module _ (words : List ℕ) (setup : Setup) (values : List ℕ) where
 
 module _
     (one other : AcceptedWindow) (place number : ℕ) (setup : Setup) (before words : List ℕ)
-    (alike : AlikeBut place (samples_of one) (samples_of other))
     (first : row_call_refusal number setup (lines_left one) before ≡ no_refusal)
     (second : row_call_refusal number setup (lines_left other) before ≡ no_refusal)
-    (held : 0 < (record_of words).windows)
+    -- what is known of the library's calls
+    (moved :
+    SmoothedApart (record_of words) (row_of (kind_with number) setup one) (row_of (kind_with number) setup other)
+    (smoothed_shift (glitch_size place (samples_of one) (samples_of other))))
   where
     abbrev d : ℕ
     d = glitch_size place (samples_of one) (samples_of other)
@@ -103,13 +105,6 @@ module _
 
     abbrev other_row : List ℕ
     other_row = row_call_exit number setup (lines_left other) before
-
-    -- what is known of the library's calls
-    moved : SmoothedApart (record_of words) (row_of (kind_with number) setup one) (row_of (kind_with number) setup other) (smoothed_shift d)
-    unfolding SmoothedBounded
-    moved =
-        glitch.smoothed (kind_with number) setup one other place (record_of words)
-        (row-known number setup (lines_left one) before first) alike (omega (arith, held))
 
     same-refusals : add_row_call_refusal words setup one_row ≡ add_row_call_refusal words setup other_row
     unfolding add_row_call_refusal add_row_answer
@@ -144,4 +139,18 @@ module _
     }
 
 pub exported-glitch : ExportedGlitchHolds
-exported-glitch = record { groups = called-groups-bounded; smoothed = called-smoothed-apart }
+unfolding SmoothedBounded
+exported-glitch = record {
+  groups = called-groups-bounded;
+  smoothed = λ one other place number setup before words alike first second.
+      let kind = kind_with number in
+      -- the library's calls, where the record holds a window
+      let moved :
+      (held : 0 < (record_of words).windows) →
+      SmoothedApart (record_of words) (row_of kind setup one) (row_of kind setup other)
+      (smoothed_shift (glitch_size place (samples_of one) (samples_of other))) =
+      λ held.
+      glitch.smoothed kind setup one other place (record_of words)
+      (row-known number setup (lines_left one) before first) alike (omega (arith, held)) in
+      λ held. called-smoothed-apart one other place number setup before words first second (moved held);
+}

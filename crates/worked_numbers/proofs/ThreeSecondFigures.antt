@@ -15,7 +15,6 @@ use Rattle.rows.specs.declared.Row.{Row}
 use Rattle.latest_rows.specs.Latest.{latest_values, last_of}
 use Rattle.observation.specs.BookCalls.{value_at, AcceptedFit}
 use Rattle.latest_rows.proofs.Latest.{last_of-enough}
-use Rattle.verdict.specs.Question.{asked}
 use Rattle.three_seconds.specs.ThreeSecond.{three_second_of, three_second_answer}
 use Rattle.accuracy.specs.Distance.{WithinMargin}
 use Rattle.accuracy.specs.CallList.{CallList, after, accepted_rows}
