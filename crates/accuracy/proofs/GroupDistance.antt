@@ -21,7 +21,7 @@ use Rattle.spectral_lines.specs.Line.{line_of, lines_of}
 use Rattle.spectral_lines.specs.Exact.{exact_sum, exact_line}
 use Rattle.windows.specs.Window.{InRange, out_of_range}
 use Rattle.spectral_lines.proofs.Distance.{cosine-sum-near, sine-sum-near}
-use Rattle.spectral_lines.proofs.Lines.{length-lines_of, get_d-lines_of, no-line-too-large}
+use Rattle.spectral_lines.proofs.Lines.{length-lines_of, get_or-lines_of, no-line-too-large}
 use Rattle.kinds.specs.declared.Kind.{Kind}
 use Rattle.kinds.specs.Kinds.{largest_total}
 use Rattle.spans.specs.Spans.{Weighted, weights_of, total_twice_weight, weighted_sum, line_at}
@@ -111,7 +111,7 @@ pub lines-of-group :
 lines-of-group kind setup order window known-setup known-order =
     let xs = weights_of kind setup order in
     weighted_sum-eq _ _ xs
-    (everywhere-imp _ _ (λ x inside. get_d-lines_of window x.line inside) xs
+    (everywhere-imp _ _ (λ x inside. get_or-lines_of window x.line inside) xs
     (weights_of-line-lt kind setup order known-setup known-order))
 
 -- every group, under both editions, is an instance: its weights add up to at most 12, and its lines stand in the spectrum

@@ -35,10 +35,10 @@ module _ {A : Type 0} (f : A → ℕ) where
   drop-made (suc n) [] = refl
   drop-made (suc n) (p ∷ places) = drop-made n places
 
-  get_d-made-le : (m : ℕ) (places : List A) → Everywhere (λ p. f p ≤ m) places → (i : ℕ) → get_or (map f places) i 0 ≤ m
-  get_d-made-le m [] every i = omega arith
-  get_d-made-le m (p ∷ places) every zero = every.0
-  get_d-made-le m (p ∷ places) every (suc i) = get_d-made-le m places every.1 i
+  get_or-made-le : (m : ℕ) (places : List A) → Everywhere (λ p. f p ≤ m) places → (i : ℕ) → get_or (map f places) i 0 ≤ m
+  get_or-made-le m [] every i = omega arith
+  get_or-made-le m (p ∷ places) every zero = every.0
+  get_or-made-le m (p ∷ places) every (suc i) = get_or-made-le m places every.1 i
 
   squares-made : (places : List A) → sum_of_squares (map f places) ≡ sum_over (λ p. f p * f p) places
   unfolding sum_of_squares sum_over
@@ -96,7 +96,7 @@ module _ (list : CallList) (fits : AcceptedFit list.setup 0 list.rows) where
           let values = map value sampled in
           let t = three_second_of values in
           let whole : length values ≡ rows_kept = length-map sampled value ∙ fifteen in
-          let fit : (i : ℕ) → get_or values i 0 < 2 ^ 32 = λ i. omega (arith, get_d-made-le value largest_value sampled values-le i) in
+          let fit : (i : ℕ) → get_or values i 0 < 2 ^ 32 = λ i. omega (arith, get_or-made-le value largest_value sampled values-le i) in
           let below = three_second_of-passes values whole fit in
           let above : sum_of_squares values < rows_kept * (suc t * suc t) =
           by_contra (suc (sum_of_squares values)) (rows_kept * (suc t * suc t)) λ l.

@@ -10,7 +10,7 @@ use lib.IntN.{ℤ}
 use lib.ListN.{length, get_or, replicate}
 use borrow.Author.Tests.{eqb-true, eq-eqb, ne_eqb, not-false}
 use Rattle.algebra.specs.Lists.{tabulate, any_of}
-use Rattle.algebra.proofs.Lists.{length-tabulate, get_or-tabulate, get_d-tabulate-le, tabulate-same}
+use Rattle.algebra.proofs.Lists.{length-tabulate, get_or-tabulate, get_or-tabulate-le, tabulate-same}
 use Rattle.square_root.proofs.RootLaws.{lt-root_limit, root-of-largest, root-le-of-le}
 use Rattle.refusals.specs.Numbers.{no_refusal, unknown_system, unknown_edition, order_out_of_range, wrong_line_count, line_too_large}
 use Rattle.refusals.proofs.Answers.{no-faults, unless_refused-accepted, unless_refused-refused}
@@ -99,7 +99,7 @@ module _ (kind : Kind) (setup : Setup) (lines : List ℕ) where
 
   pub group_values-le : (i : ℕ) → get_or (group_values kind setup lines) i 0 ≤ largest_value
   unfolding group_values
-  group_values-le = get_d-tabulate-le order_count _ largest_value (λ j inside. answered-value-le kind setup (j + 1) lines)
+  group_values-le = get_or-tabulate-le order_count _ largest_value (λ j inside. answered-value-le kind setup (j + 1) lines)
 
   -- the value of an order in a row
   pub group_values-at :

@@ -26,7 +26,7 @@ use Rattle.windows.specs.Checks.{window_checks, window_refusal}
 use Rattle.spectral_lines.specs.Calls.{lines_from_exit}
 use Rattle.windows.proofs.Accepted.{window-accepted}
 use Rattle.spectral_lines.proofs.PartAccepted.{part-accepted}
-use Rattle.spectral_lines.proofs.Lines.{length-lines_from, get_d-lines_from, get_d-lines_of, no-line-too-large}
+use Rattle.spectral_lines.proofs.Lines.{length-lines_from, get_or-lines_from, get_or-lines_of, no-line-too-large}
 use Rattle.kinds.specs.declared.Kind.{Kind}
 use Rattle.kinds.specs.declared.Kind.TheVariants.{Component, HarmonicGroup}
 use Rattle.kinds.specs.declared.Span.{Span}
@@ -100,7 +100,7 @@ holds_more window first have count total buffer lines rest sum room more holds i
         ∙ get_or-append-add (take have buffer) _ (i - have) 0
         ∙ get_or-append lines rest 0 (i - have) (rw (more, length-lines_from (first + have) count window) (omega arith))
         ∙ ap (λ l. line_at l (i - have)) more
-        ∙ get_d-lines_from (first + have) count window (i - have) (omega arith)
+        ∙ get_or-lines_from (first + have) count window (i - have) (omega arith)
         ∙ ap (line_of window) number
 
 -- what `lines_alone` leaves in a part of the buffer of so many lines
@@ -151,7 +151,7 @@ module _ (setup : Setup) (h : ℕ) (known : is_setup setup ≡ true) (order : is
         let place : first_line setup h + (span.first - first_line setup h + i) ≡ span.first + i = omega (arith, within.from) in
         holds (span.first - first_line setup h + i) (omega (arith, within.from, within.to))
         ∙ ap (line_of window) place
-        ∙ sym (get_d-lines_of window (span.first + i) (omega (arith, (group_span-bounds HarmonicGroup setup h known order).end-le))))
+        ∙ sym (get_or-lines_of window (span.first + i) (omega (arith, (group_span-bounds HarmonicGroup setup h known order).end-le))))
 
     pub panel-value : value_over (weights_in (panel_span setup h)) (line_at buffer) ≡ group_value HarmonicGroup setup h (lines_of window)
     unfolding value_over group_value

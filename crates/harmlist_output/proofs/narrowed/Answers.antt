@@ -7,7 +7,7 @@ use Rattle.algebra.specs.Lists.{tabulate}
 use Rattle.rows.specs.Orders.{order_count}
 use Rattle.rows.specs.Rows.{largest_value}
 use Rattle.algebra.proofs.Filling.{filled_more, filled-whole}
-use Rattle.records.proofs.NoneAbove.{get_d-le-of-none-above}
+use Rattle.records.proofs.NoneAbove.{get_or-le-of-none-above}
 use Rattle.algebra.proofs.Lists.{tabulate-whole}
 use Rattle.harmlist_output.proofs.narrowed.Goals as goal
 
@@ -16,7 +16,7 @@ unfolding tabulate
 loop-i-init c = (omega arith, refl)
 
 pub overflow_cast-narrow : goal.overflow_cast-narrow
-overflow_cast-narrow c = record { fits = omega (arith, get_d-le-of-none-above largest_value _ c.loop-i.i c.requires) }
+overflow_cast-narrow c = record { fits = omega (arith, get_or-le-of-none-above largest_value _ c.loop-i.i c.requires) }
 
 pub loop-i-preserved : goal.loop-i-preserved
 loop-i-preserved c = let inside : c.loop-i.i < order_count = omega arith in
