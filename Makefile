@@ -13,7 +13,7 @@ all: $(EXAMPLES)
 # What is said of the archive's numbers is proved first; worked_numbers rests on exported_accuracy and on
 # the exporting crates. The file is as old as the beginning, so that an edit while the proofs run is not
 # missed.
-$(PROVED): crates.txt $(shell find crates -type d -o -name '*.rt' -o -name '*.antt')
+$(PROVED): crates.txt $(shell find crates -mindepth 2 -name out -prune -o '(' -type d -o -name '*.rt' -o -name '*.antt' ')' -print)
 	@echo "Proving what was not proved before; all of it takes some minutes."
 	@mkdir -p $(@D) && touch $@.begun
 	for crate in accuracy worked_numbers; do (cd crates/$$crate && rt check) && echo "$$crate proved" || exit 1; done
