@@ -29,7 +29,8 @@ use Rattle.accuracy.proofs.Places.{rounded_sums, places_of, squares-at, value-ro
 use Rattle.accuracy.proofs.GroupDistance.{is-order, lines-accepted, lines-of-group}
 use Rattle.glitch.specs.Windows.{AcceptedWindow, samples_of, lines_left, AlikeBut, glitch_size}
 use Rattle.glitch.specs.Claim.{group_shift, Apart, GroupsBounded}
-use Rattle.glitch.proofs.Lines.{norm_most, line_move, line_move-le}
+use Rattle.glitch.proofs.NormMost.{norm_most}
+use Rattle.glitch.proofs.Lines.{line_move, line_move-le}
 
 -- r is within u of the root of a sum, so it is within u of the whole part of that root
 roots-apart : (sum r root u : ℕ) → WithinUnits 1 sum 1 r u → Root sum root → Apart u r root

@@ -1,4 +1,5 @@
 -- The theorems of one bad sample.
+pub mod NormMost
 pub mod Lines
 pub mod Groups
 pub mod Smoothed

@@ -3,7 +3,7 @@
 -- adds at most 1 to each move.
 use mathlib.Core.Path.{◌≡◌}
 use mathlib.Core.List.{List, [], ◌∷◌}
-use Prim.Native.Nat.{ℕ, zero, suc, ◌+◌, ◌*◌, ◌≤◌, ◌<◌}
+use Prim.Native.Nat.{ℕ, ◌+◌, ◌*◌, ◌≤◌, ◌<◌}
 use native.Mathlib.Nat.{mul-le-mul, mul-le-mul_left, mul-pos, le_of_mul-le-mul_left}
 use native.Mathlib.Omega.{arith}
 use lib.Dec.{lit<, lit≤}
@@ -21,6 +21,7 @@ use Rattle.spectral_lines.specs.Line.{sum_scale, line_sum, rounded_sum}
 use Rattle.spectral_lines.proofs.Bounds.{summand}
 use Rattle.kinds.specs.Kinds.{largest_total}
 use Rattle.glitch.specs.Windows.{AlikeBut, glitch_size}
+use Rattle.glitch.proofs.NormMost.{norm_most, norm_most-enough}
 
 -- the summands at one index differ by the samples' difference times the wave
 difference-of-products : (s t w : ℤ) → s *ℤ w -ℤ t *ℤ w ≡ (s -ℤ t) *ℤ w
@@ -57,17 +58,6 @@ module _ (t r : ℕ) (positive : 0 < t) (near : 1000 * (r * r) ≤ 4001 * (t * t
       -- and the moves themselves: √2 is below 3/2
       both : 2 * (d * c + d * s) ≤ 3 * (d * r)
       both = le-of-square-le _ _ (omega (arith, moved, double-product-le (d * c) (d * s)))
-
--- a bound on how far the sums of a group move, as a norm over its weights, of which one line may have all
-abbrev pub norm_most : ℕ → ℕ
-norm_most d = 10 * d + 7
-
-norm_most-enough : (d : ℕ) → largest_total * (4001 * (d * d) + 6001 * d + 2000) ≤ 1000 * (norm_most d * norm_most d)
-norm_most-enough d = omega (arith, le-square d, double-product-le d 1)
-  where
-    le-square : (d : ℕ) → d ≤ d * d
-    le-square zero = omega arith
-    le-square (suc d) = omega arith
 
 module _ (place : ℕ) (one other : List ℤ) (alike : AlikeBut place one other) where
   abbrev d : ℕ
