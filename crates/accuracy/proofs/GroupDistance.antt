@@ -11,7 +11,7 @@ use borrow.Author.Tests.{eq-eqb, lt-ltb, le-leb}
 use Rattle.refusals.specs.Numbers.{no_refusal}
 use Rattle.algebra.specs.Fraction as Fraction
 use Rattle.algebra.specs.Fraction.{whole}
-use Rattle.algebra.specs.Lists.{any_of}
+use Rattle.std.specs.List.{list_any}
 use Rattle.algebra.specs.Weighted.{Place, Everywhere, Near, NearVector, WithinUnits}
 use Rattle.algebra.proofs.Norm.{near-differences, group-spread}
 use Rattle.algebra.proofs.Weighted.{everywhere-imp}
@@ -39,7 +39,7 @@ use Rattle.accuracy.proofs.Places.{Sums, rounded_sums, places_of, everywhere-pla
 abbrev exact_sums : List ℤ → Sums
 exact_sums window = record { cosine = exact_sum exact_cosine window; sine = exact_sum exact_sine window }
 
-module _ (window : List ℤ) (in-range : any_of out_of_range window ≡ false) where
+module _ (window : List ℤ) (in-range : list_any out_of_range window ≡ false) where
   abbrev places : List Weighted → List Place
   places = places_of (rounded_sums window) (exact_sums window)
 

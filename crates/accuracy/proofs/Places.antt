@@ -8,7 +8,7 @@ use native.Mathlib.Nat.{mul-le-mul_right}
 use native.Mathlib.Omega.{arith}
 use lib.IntN.{ℤ}
 use Rattle.algebra.specs.Integers.{square}
-use Rattle.algebra.specs.Lists.{any_of}
+use Rattle.std.specs.List.{list_any}
 use Rattle.algebra.specs.Weighted.{sum_over, weighted_squares, Place, total_weight, squares, exact_squares, Everywhere, DifferencesWithin, WithinUnits}
 use Rattle.algebra.proofs.Norm.{norm-within}
 use Rattle.square_root.proofs.RootLaws.{Root, root-law, lt-root_limit}
@@ -76,7 +76,7 @@ rounded_sums window = record { cosine = rounded_sum table_cosine window; sine = 
 
 -- a window in range, and some lines whose weights add up to at most 12
 module _
-    (window : List ℤ) (in-range : any_of out_of_range window ≡ false)
+    (window : List ℤ) (in-range : list_any out_of_range window ≡ false)
     (xs : List Weighted) (total : total_twice_weight xs ≤ largest_total)
   where
     -- no line is above 2^59, so the sum has a root

@@ -13,9 +13,8 @@ use Rattle.classes.specs.declared.Class.{Class}
 use Rattle.classes.specs.Letters.{letter_of}
 use Rattle.limits.specs.Limit.{has_limit}
 use Rattle.classes.proofs.ClassLetters.{letter_of-class}
-use Rattle.verdict.specs.declared.VerdictAnswer.TheVariants.{Given}
+use Rattle.verdict.specs.Call.{Given, verdict_in, verdict_refusal, verdict_answer}
 use Rattle.verdict.specs.Question.{asked, is_scale}
-use Rattle.verdict.specs.Call.{verdict_in, verdict_refusal, verdict_answer}
 use Rattle.verdict.proofs.Verdicts.{accepted-given}
 use Rattle.accuracy.specs.CallList.{CallList, after}
 use Rattle.accuracy.specs.Claim.{WorkedList}

@@ -9,7 +9,8 @@ use lib.IntN.{ℤ}
 use lib.ListN.{replicate}
 use Rattle.algebra.specs.Fraction.{whole, times, divide}
 use Rattle.algebra.specs.Largest.{largest}
-use Rattle.algebra.specs.Lists.{tabulate, any_of}
+use Rattle.algebra.specs.Lists.{tabulate}
+use Rattle.std.specs.List.{list_any}
 use Rattle.algebra.specs.Rounding.{nearest}
 use Rattle.algebra.specs.Weighted.{sum_over}
 use Rattle.square_root.specs.Root.{root_of}
@@ -41,10 +42,8 @@ use Rattle.limit_tests.specs.Limit.{limit_in_units, peak_limit_in_units}
 use Rattle.limit_tests.specs.Tests.{is_within, is_over}
 use Rattle.verdict.specs.declared.Verdict.{Verdict}
 use Rattle.verdict.specs.declared.Verdict.TheVariants.{Within, Close, Over}
-use Rattle.verdict.specs.declared.VerdictAnswer.{VerdictAnswer}
-use Rattle.verdict.specs.declared.VerdictAnswer.TheVariants.{Given}
+use Rattle.verdict.specs.Call.{VerdictAnswer, Given, combined, verdict_in, verdict_answer}
 use Rattle.verdict.specs.Question.{asked, is_scale}
-use Rattle.verdict.specs.Call.{combined, verdict_in, verdict_answer}
 use Rattle.records.specs.Average.{average_of, peak_of}
 use Rattle.accuracy.specs.Distance.{EveryOrder, value_of}
 use Rattle.accuracy.specs.Rule.{reported_average}
@@ -89,7 +88,7 @@ pub pulse-values :
     × ((group_answer HarmonicGroup (setup_of 10 1) 3 (replicate line_count 4000000)).value ≡ 8944)
     × ((group_answer HarmonicGroup (setup_of 10 0) 1 (replicate line_count 4000000)).value ≡ 8944)
     × ((group_answer HarmonicGroup (setup_of 10 1) 1 (replicate line_count 4000000)).value ≡ 2828)
-unfolding group_answer group_refusal is_system is_edition is_order group_value value_over root_of largest span_of grouped_as weights_in weighted_sum sum_over tabulate any_of
+unfolding group_answer group_refusal is_system is_edition is_order group_value value_over root_of largest span_of grouped_as weights_in weighted_sum sum_over tabulate
 pulse-values = (refl, refl, refl, refl)
 
 pub pulse-group :

@@ -17,9 +17,8 @@ use Rattle.classes.specs.Letters.{letter_of}
 use Rattle.verdict.specs.declared.Question.{Question}
 use Rattle.verdict.specs.declared.Verdict.{Verdict}
 use Rattle.verdict.specs.declared.Verdict.TheVariants.{Within, Close, Over}
-use Rattle.verdict.specs.declared.VerdictAnswer.TheVariants.{Given}
+use Rattle.verdict.specs.Call.{Given, verdict_refusal, verdict_answer, order_number}
 use Rattle.verdict.specs.Question.{class_asked}
-use Rattle.verdict.specs.Call.{verdict_refusal, verdict_answer, order_number}
 use Rattle.accuracy.specs.Distance.{EveryOrder, WeightsNear, GroupsNear}
 use Rattle.accuracy.specs.ExactBook.{exact}
 use Rattle.accuracy.specs.Rule.{Passes, AverageExceeds, PeakExceeds, AverageTouches, PeakTouches}

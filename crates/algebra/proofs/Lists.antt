@@ -1,4 +1,4 @@
--- Laws of `tabulate` and `any_of`, in the form that a loop over a list's places uses: what is filled is the front of the definition's list, and the test over the rest is the test over the whole.
+-- Laws of `tabulate` and `list_any`, in the form that a loop over a list's places uses: what is filled is the front of the definition's list, and the test over the rest is the test over the whole.
 use mathlib.Core.Path.{◌≡◌, refl, sym, ap, ap₂, ◌∙◌}
 use mathlib.Core.Logic.{⊎_elim}
 use mathlib.Core.Bool.{Bool, true, false, ◌||◌}
@@ -10,7 +10,8 @@ use native.Mathlib.Decide.{dec_lt}
 use native.Mathlib.Omega.{arith}
 use lib.ListN.{length, get_or, take, drop, set, replicate, length-append, length-drop, length-replicate, get_or-replicate, drop_of_length-le, get_or-append, get_or-eq_default}
 use lib.Seq.{take_all, take-length, drop-cons, drop-length, get_or_at, set_at, length-take-le, get_or-take, get_or-drop, ext_get_or}
-use Rattle.algebra.specs.Lists.{tabulate, any_of}
+use Rattle.algebra.specs.Lists.{tabulate}
+use Rattle.std.specs.List.{list_any}
 
 module _ {ℓ} {A : Type ℓ} where
   pub length-tabulate : (n : ℕ) (f : ℕ → A) → length (tabulate n f) ≡ n
@@ -63,40 +64,36 @@ module _ {ℓ} {A : Type ℓ} where
           let cut : min n (length l) ≡ length l = omega arith in
           rw (cut, drop-length l) (sym (drop_of_length-le l {i = n} (omega arith)))
 
+module _ {A : Type 0} where
   -- a test that fails at place i has the same answer from i + 1 on
-  pub any_of-drop : (passes : A → Bool) (l : List A) (i : ℕ) (d : A) → i < length l → passes (get_or l i d) ≡ false → any_of passes (drop (i + 1) l) ≡ any_of passes (drop i l)
-  unfolding any_of
-  any_of-drop passes l i d h e = rw (add-one i, drop-cons l i d h, e)
+  pub list_any-drop : (passes : A → Bool) (l : List A) (i : ℕ) (d : A) → i < length l → passes (get_or l i d) ≡ false → list_any passes (drop (i + 1) l) ≡ list_any passes (drop i l)
+  list_any-drop passes l i d h e = rw (add-one i, drop-cons l i d h, e)
 
   -- a test that passes at place i passes
-  pub any_of-here : (passes : A → Bool) (l : List A) (i : ℕ) (d : A) → i < length l → passes (get_or l i d) ≡ true → any_of passes (drop i l) ≡ true
-  unfolding any_of
-  any_of-here passes l i d h e = rw (drop-cons l i d h, e)
+  pub list_any-here : (passes : A → Bool) (l : List A) (i : ℕ) (d : A) → i < length l → passes (get_or l i d) ≡ true → list_any passes (drop i l) ≡ true
+  list_any-here passes l i d h e = rw (drop-cons l i d h, e)
 
-  pub any_of-end : (passes : A → Bool) (l : List A) → any_of passes (drop (length l) l) ≡ false
-  unfolding any_of
-  any_of-end passes l = rw (drop-length l)
+  pub list_any-end : (passes : A → Bool) (l : List A) → list_any passes (drop (length l) l) ≡ false
+  list_any-end passes l = rw (drop-length l)
 
   -- where no element passes, none at any place does
-  pub any_of-none : (passes : A → Bool) (l : List A) (i : ℕ) (d : A) → any_of passes l ≡ false → i < length l → passes (get_or l i d) ≡ false
-  unfolding any_of
-  any_of-none passes [] i d e h = absurd (not-suc-le-zero h)
-  any_of-none passes (x ∷ xs) zero d e h = first (passes x) (any_of passes xs) e
+  pub list_any-none : (passes : A → Bool) (l : List A) (i : ℕ) (d : A) → list_any passes l ≡ false → i < length l → passes (get_or l i d) ≡ false
+  list_any-none passes [] i d e h = absurd (not-suc-le-zero h)
+  list_any-none passes (x ∷ xs) zero d e h = first (passes x) (list_any passes xs) e
     where
       first : (a b : Bool) → (a || b) ≡ false → a ≡ false
       first true b p = p
       first false b p = refl
-  any_of-none passes (x ∷ xs) (suc i) d e h = any_of-none passes xs i d (rest (passes x) (any_of passes xs) e) (le_of_suc-le-suc h)
+  list_any-none passes (x ∷ xs) (suc i) d e h = list_any-none passes xs i d (rest (passes x) (list_any passes xs) e) (le_of_suc-le-suc h)
     where
       rest : (a b : Bool) → (a || b) ≡ false → b ≡ false
       rest true b p = absurd (mathlib.Core.Bool.true≢false p)
       rest false b p = p
 
   -- and where none at any place does, no element passes
-  pub any_of-false : (passes : A → Bool) (l : List A) (d : A) → ((i : ℕ) → i < length l → passes (get_or l i d) ≡ false) → any_of passes l ≡ false
-  unfolding any_of
-  any_of-false passes [] d e = refl
-  any_of-false passes (x ∷ xs) d e = rw (e 0 (omega arith)) (any_of-false passes xs d (λ i h. e (suc i) (omega arith)))
+  pub list_any-false : (passes : A → Bool) (l : List A) (d : A) → ((i : ℕ) → i < length l → passes (get_or l i d) ≡ false) → list_any passes l ≡ false
+  list_any-false passes [] d e = refl
+  list_any-false passes (x ∷ xs) d e = rw (e 0 (omega arith)) (list_any-false passes xs d (λ i h. e (suc i) (omega arith)))
 
 -- no entry above m, also none past the end
 pub get_or-tabulate-le : (n : ℕ) (f : ℕ → ℕ) (m : ℕ) → ((i : ℕ) → i < n → f i ≤ m) → (i : ℕ) → get_or (tabulate n f) i 0 ≤ m

@@ -1,5 +1,5 @@
--- Lists by their places, one list after the other, a test over a list, and a list of tests.
-use Rattle.std.specs.Prelude.{Bool, true, false, ◌&&◌, ◌||◌, List, [], ◌∷◌, ◌++◌, ℕ, zero, suc}
+-- Lists by their places, one list after the other, and a list of tests.
+use Rattle.std.specs.Prelude.{Bool, true, ◌&&◌, List, [], ◌∷◌, ◌++◌, ℕ, zero, suc}
 
 module _ {ℓ} {A : Type ℓ} where
   -- f 0, f 1, .. f (n − 1)
@@ -11,11 +11,6 @@ module _ {ℓ} {A : Type ℓ} where
   unfoldable pub joined : List (List A) → List A
   joined [] = []
   joined (xs ∷ lists) = xs ++ joined lists
-
-  -- some element passes the test
-  unfoldable pub any_of : (A → Bool) → List A → Bool
-  any_of passes [] = false
-  any_of passes (x ∷ xs) = passes x || any_of passes xs
 
 -- each of some tests passes
 abbrev pub all_true : List Bool → Bool

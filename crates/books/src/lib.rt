@@ -16,9 +16,10 @@ pub const SMOOTHED_MARGIN: u64 = 12;
 
 // The weighted mean of a new value and the old smoothed one, to the nearest, halves up. It is no larger than the
 // larger of the two.
+#[tactic(auto, unfolding(crate::specs::Smoothing::smoothed_value, algebra::specs::Rounding::nearest))]
 pub fn smoothed_value(new: u32, old: u32) -> u32
     ensures { result ≡ smoothed_value new old }
 {
-    let weighted = NEW_WEIGHT * new as u64 + OLD_WEIGHT * old as u64;
+    let weighted = NEW_WEIGHT * u64::from(new) + OLD_WEIGHT * u64::from(old);
     ((2 * weighted + BOTH_WEIGHTS) / (2 * BOTH_WEIGHTS)) as u32
 }

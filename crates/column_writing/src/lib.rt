@@ -1,122 +1,61 @@
-// Writing a number column of any width: blanks, a minus below 0, and the digits from the right. The
-// caller lends the buffer.
+// Writing a number column of any width: blanks, and the number's text after them. The caller lends the buffer.
 #![tactic(auto)]
 
-ghost use Rattle.std.specs.Prelude.{◌++◌, ◌≡◌, ◌≤◌, ◌<◌, nat_abs, length, drop, replicate};
-ghost use Rattle.columns.specs.Text.{blank, AtEnd};
-ghost use Rattle.columns.specs.Column.{digit_byte, decimal_text, number_text, fits_column};
+ghost use Rattle.std.specs.Prelude.{◌≡◌, ◌≤◌, length};
+ghost use Rattle.refusals.specs.Answers.{refusal_of};
+ghost use Rattle.columns.specs.Text.{right_justified};
+ghost use Rattle.columns.specs.Column.{number_text, fits_column};
 ghost use Rattle.columns.specs.Calls.{column_write_refusal, column_write_exit, column_fill_refusal, column_fill_exit};
 
-use columns::{BLANK, COLUMN_WIDTH, DIGIT_ZERO, MINUS};
-use refusals::{NO_REFUSAL, NOT_A_COLUMN, WRONG_BUFFER_LENGTH};
+use columns::COLUMN_WIDTH;
+use itoa::Buffer;
+use refusals::{Refusal, refuse_if};
 
-// Writes the column of a number into a buffer of 8 bytes, and answers the refusal, or NO_REFUSAL.
-pub fn write_column(buffer: &mut [u8], number: i64) -> u32
-    ensures value { result ≡ column_write_refusal buffer.old number }
+// Writes the column of a number into a buffer of 8 bytes. Refused: 14 a buffer of another length, 13 a number that is wider.
+pub fn write_column(buffer: &mut [u8], number: i64) -> Result<(), Refusal>
+    ensures value { refusal_of result ≡ column_write_refusal buffer.old number }
     ensures buffer_after { buffer.new ≡ column_write_exit buffer.old number }
 {
-    if buffer.len() != COLUMN_WIDTH {
-        return WRONG_BUFFER_LENGTH;
-    }
+    refuse_if(buffer.len() != COLUMN_WIDTH, Refusal::WrongBufferLength)?;
     fill_column(buffer, number)
 }
 
-// Fills the buffer with the column of a number, as wide as the buffer, and answers the refusal, or
-// NO_REFUSAL.
-pub fn fill_column(buffer: &mut [u8], number: i64) -> u32
-    ensures value { result ≡ column_fill_refusal buffer.old number }
+// Fills the buffer with the column of a number, as wide as the buffer. Refused: 13 a number that is wider.
+#[tactic(auto, unfolding(columns::specs::Column::fits_column, columns::specs::Column::column_text))]
+pub fn fill_column(buffer: &mut [u8], number: i64) -> Result<(), Refusal>
+    ensures value { refusal_of result ≡ column_fill_refusal buffer.old number }
     ensures buffer_after { buffer.new ≡ column_fill_exit buffer.old number }
 {
-    if !fits_column(buffer.len(), number) {
-        return NOT_A_COLUMN;
-    }
-    let at = write_number(buffer, number);
-    fill_blanks(buffer, at);
-    NO_REFUSAL
+    let mut bytes = Buffer::new();
+    let text = number_text(&mut bytes, number);
+    refuse_if(buffer.len() < text.len(), Refusal::NotAColumn)?;
+    justify_right(buffer, text);
+    Ok(())
+}
+
+// Writes a text to the end of the buffer, and blanks before it.
+#[tactic(auto, unfolding(columns::specs::Text::right_justified))]
+fn justify_right(buffer: &mut [u8], text: &[u8])
+    requires { length text.now ≤ length buffer.old }
+    ensures { buffer.new ≡ right_justified (length buffer.old) text.now }
+{
+    let blanks = buffer.len() - text.len();
+    buffer[..blanks].fill(b' ');
+    buffer[blanks..].copy_from_slice(text);
 }
 
 // Whether a column of a width can hold a number.
+#[tactic(auto, unfolding(columns::specs::Column::fits_column))]
 pub fn fits_column(width: usize, number: i64) -> bool
     ensures { result ≡ fits_column width number }
 {
-    text_length(number) <= width
+    number_text(&mut Buffer::new(), number).len() <= width
 }
 
-// Makes the first bytes of the buffer blanks.
-fn fill_blanks(buffer: &mut [u8], count: usize)
-    requires { count ≤ length buffer.old }
-    ensures { buffer.new ≡ replicate count blank ++ drop count buffer.old }
+// The text of a number, which stands in the bytes that are lent.
+#[tactic(auto, using(columns::proofs::NumberText::number_text_is))]
+fn number_text(bytes: &mut Buffer, number: i64) -> &[u8]
+    ensures { result.now ≡ number_text number }
 {
-    let mut at = 0;
-    while at < count {
-        buffer[at] = BLANK;
-        at += 1;
-    }
-}
-
-// Writes the number's text at the end of the buffer, and answers its place.
-fn write_number(buffer: &mut [u8], number: i64) -> usize
-    requires { length (number_text number) ≤ length buffer.old }
-    ensures { AtEnd buffer.old (number_text number) result buffer.new }
-{
-    let digits = write_digits(buffer, magnitude(number));
-    if number < 0 {
-        let at = digits - 1;
-        buffer[at] = MINUS;
-        return at;
-    }
-    digits
-}
-
-// Writes the decimal text at the end of the buffer, and answers its place.
-fn write_digits(buffer: &mut [u8], number: u64) -> usize
-    requires { length (decimal_text number) ≤ length buffer.old }
-    ensures { AtEnd buffer.old (decimal_text number) result buffer.new }
-{
-    let mut rest = number;
-    let mut at = buffer.len();
-    while rest >= 10 {
-        at -= 1;
-        buffer[at] = digit_byte(rest % 10);
-        rest /= 10;
-    }
-    at -= 1;
-    buffer[at] = digit_byte(rest);
-    at
-}
-
-fn digit_byte(digit: u64) -> u8
-    requires { digit < 10 }
-    ensures { result ≡ digit_byte digit }
-{
-    DIGIT_ZERO + digit as u8
-}
-
-// The number of bytes of a number's text.
-fn text_length(number: i64) -> usize
-    ensures { result ≡ length (number_text number) }
-{
-    let digits = digit_count(magnitude(number));
-    if number < 0 { digits + 1 } else { digits }
-}
-
-fn digit_count(number: u64) -> usize
-    ensures { result ≡ length (decimal_text number) }
-{
-    let mut rest = number;
-    let mut count = 1;
-    while rest >= 10 {
-        rest /= 10;
-        count += 1;
-    }
-    count
-}
-
-fn magnitude(number: i64) -> u64
-    ensures { result ≡ nat_abs number }
-{
-    if number < 0 {
-        return (-1 - number) as u64 + 1;
-    }
-    number as u64
+    bytes.format(number).as_bytes()
 }

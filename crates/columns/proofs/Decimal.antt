@@ -1,5 +1,5 @@
 -- The decimal text of a number without sign: it is a text of digits of the form, its place value is the number, and no other text of the form has that value.
-use mathlib.Core.Bool.{Bool, true, false, not, ◌&&◌, false≢true}
+use mathlib.Core.Bool.{true, false, not, ◌&&◌, false≢true}
 use mathlib.Core.List.{List, [], ◌∷◌, ◌++◌, append-nil, append_assoc}
 use mathlib.Core.Path.{◌≡◌, refl, ap, ◌∙◌}
 use Prim.Native.Nat.{ℕ, zero, suc, ◌+◌, ◌-◌, ◌*◌, ◌/◌, ◌%◌, ◌^◌, ◌≤◌, ◌<◌}
@@ -9,12 +9,9 @@ use native.Mathlib.Omega.{arith}
 use borrow.Author.Tests.{lt-ltb, le-ltb, le-leb, ne_eqb, ltb-true, leb-true, eqb-false, not-true}
 use lib.Dec.{eqb, leb, ltb}
 use lib.ListN.{length, length-append}
+use Rattle.std.proofs.lemmas.Bool.{and_parts}
 use Rattle.columns.specs.Text.{digit_zero}
 use Rattle.columns.specs.Column.{digit_byte, decimal_within, decimal_text, is_digit, are_digits, is_whole, place_value}
-
-pub both_true : (a b : Bool) → a && b ≡ true → (a ≡ true) × (b ≡ true)
-both_true true b h = (refl, h)
-both_true false b h = absurd (false≢true h)
 
 -- the number of places that the definition allows does not matter
 within_same : (j k n : ℕ) → n < j → n < k → decimal_within j n ≡ decimal_within k n
@@ -82,17 +79,16 @@ digit-of d h = rw (le-leb digit_zero (digit_byte d) (omega arith), lt-ltb (digit
 
 pub digit-bounds : (b : ℕ) → is_digit b ≡ true → (digit_zero ≤ b) × (b < digit_zero + 10)
 digit-bounds b h =
-    let two = both_true (leb digit_zero b) (ltb b (digit_zero + 10)) h in
+    let two = and_parts (leb digit_zero b) (ltb b (digit_zero + 10)) h in
     (leb-true digit_zero b two.0, ltb-true b (digit_zero + 10) two.1)
 
 digits-snoc : (text : List ℕ) (b : ℕ) → are_digits text ≡ true → is_digit b ≡ true → are_digits (text ++ (b ∷ [])) ≡ true
-unfolding are_digits
 digits-snoc [] b g h = rw h
 digits-snoc (c ∷ text) b g h =
-    let two = both_true (is_digit c) (are_digits text) g in
+    let two = and_parts (is_digit c) (are_digits text) g in
     rw (two.0, digits-snoc text b two.1 h)
 
-value-snoc : (text : List ℕ) (b : ℕ) → place_value (text ++ (b ∷ [])) ≡ place_value text * 10 + (b - digit_zero)
+pub value-snoc : (text : List ℕ) (b : ℕ) → place_value (text ++ (b ∷ [])) ≡ place_value text * 10 + (b - digit_zero)
 unfolding place_value
 value-snoc [] b = rw pow-zero (omega arith)
 value-snoc (c ∷ text) b =
@@ -109,7 +105,6 @@ record Leading (text : List ℕ) : Type 0 where
   digits : are_digits rest ≡ true
 
 leading-of-positive : (n : ℕ) → 0 < n → Leading (decimal_text n)
-unfolding are_digits
 leading-of-positive = decimal-ind (λ n. 0 < n → Leading (decimal_text n)) one more
   where
     one : (n : ℕ) → n < 10 → 0 < n → Leading (decimal_text n)
@@ -161,10 +156,10 @@ value-of-decimal = decimal-ind (λ n. place_value (decimal_text n) ≡ n) one mo
 -- digits that follow a number's text
 decimal-append : (text : List ℕ) (n : ℕ) → 0 < n → are_digits text ≡ true
     → decimal_text (n * 10 ^ length text + place_value text) ≡ decimal_text n ++ text
-unfolding are_digits place_value
+unfolding place_value
 decimal-append [] n some h = rw (pow-zero, append-nil) (ap decimal_text (omega arith))
 decimal-append (b ∷ text) n some h =
-    let two = both_true (is_digit b) (are_digits text) h in
+    let two = and_parts (is_digit b) (are_digits text) h in
     let bounds = digit-bounds b two.0 in
     let longer = n * 10 + (b - digit_zero) in
     let value : n * 10 ^ suc (length text) + ((b - digit_zero) * 10 ^ length text + place_value text) ≡ longer * 10 ^ length text + place_value text =
@@ -190,8 +185,8 @@ decimal-of-value (b ∷ []) h =
     let value : (b - digit_zero) * 1 + 0 ≡ b - digit_zero = omega arith in
     ap decimal_text value ∙ one-digit b h
 decimal-of-value (b ∷ c ∷ text) h =
-    let two = both_true (is_digit b && not (eqb b digit_zero)) (are_digits (c ∷ text)) h in
-    let first = both_true (is_digit b) (not (eqb b digit_zero)) two.0 in
+    let two = and_parts (is_digit b && not (eqb b digit_zero)) (are_digits (c ∷ text)) h in
+    let first = and_parts (is_digit b) (not (eqb b digit_zero)) two.0 in
     let bounds = digit-bounds b first.0 in
     let other = eqb-false b digit_zero (not-true (eqb b digit_zero) first.1) in
     let some : 0 < b - digit_zero = omega arith in

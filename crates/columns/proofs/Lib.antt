@@ -1,8 +1,6 @@
--- The theorems of number columns, and the laws that the proofs of the functions of `column_reading` and `column_writing` share.
+-- The theorems of number columns, and the laws that the proofs of the functions of `column_reading` and `column_writing` rest on.
 pub mod Decimal
 pub mod Column
-pub mod WorkedColumns
-pub mod Bytewise
-pub mod NumberText
 pub mod Readings
-pub mod Writings
+pub mod NumberText
+pub mod WorkedColumns

@@ -1,28 +1,25 @@
--- The text of a number by its sign and magnitude.
-use mathlib.Core.List.{◌∷◌}
-use mathlib.Core.Bool.{true, false, true≢false}
-use mathlib.Core.Path.{◌≡◌, refl}
-use Prim.Native.Nat.{◌≤◌}
-use native.Mathlib.Nat.{not-suc-le-zero}
+-- The text of a number is the one that std's formatting of it gives.
+use mathlib.Core.List.{List, ◌∷◌}
+use mathlib.Core.Path.{◌≡◌, ap}
+use Prim.Native.Nat.{ℕ, suc, ◌^◌, ◌<◌}
 use native.Mathlib.Omega.{arith}
-use borrow.Author.Tests.{ltb-true}
-use lib.IntN.{ℤ, pos, negsuc, nat_abs}
-use lib.ListN.{length}
-use lib.Signed.{lt_z}
+use lib.IntN.{ℤ, pos, negsuc}
+use lib.Signed.{mag}
+use Rattle.std.specs.Fmt.{decimal, signed_decimal}
+use Rattle.std.proofs.Common.{rules}
+use Rattle.std.proofs.lemmas.Fmt.{AppendsLastDigit, decimal_from_appends, length-decimal-le_succ}
 use Rattle.columns.specs.Text.{minus}
-use Rattle.columns.specs.Column.{decimal_text, number_text}
+use Rattle.columns.specs.Column.{decimal_within, decimal_text, number_text}
 
-pub number_text-negative : (z : ℤ) → lt_z z (pos 0) ≡ true → number_text z ≡ minus ∷ decimal_text (nat_abs z)
-unfolding number_text
-number_text-negative (pos n) h = absurd (not-suc-le-zero (ltb-true n 0 h))
-number_text-negative (negsuc n) h = refl
+appends : AppendsLastDigit decimal_within
+unfolding decimal_within
+appends = search rules
 
-pub number_text-positive : (z : ℤ) → lt_z z (pos 0) ≡ false → number_text z ≡ decimal_text (nat_abs z)
-unfolding number_text
-number_text-positive (pos n) h = refl
-number_text-positive (negsuc n) h = absurd (true≢false h)
+decimal_is : (n : ℕ) → n < 2 ^ 64 → decimal_text n ≡ decimal n
+unfolding decimal_text
+decimal_is n h = decimal_from_appends decimal_within appends (suc n) n h (omega (arith, length-decimal-le_succ n h))
 
-pub number_text-digits-le : (z : ℤ) → length (decimal_text (nat_abs z)) ≤ length (number_text z)
+pub number_text_is : (z : ℤ) → mag z < 2 ^ 63 → number_text z ≡ signed_decimal z
 unfolding number_text
-number_text-digits-le (pos n) = omega arith
-number_text-digits-le (negsuc n) = omega arith
+number_text_is (pos n) h = decimal_is n (omega arith)
+number_text_is (negsuc n) h = ap (λ (t : List ℕ). minus ∷ t) (decimal_is (suc n) (omega arith))

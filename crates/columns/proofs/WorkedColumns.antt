@@ -1,15 +1,14 @@
 -- Worked columns, those of document 01's case 10 first, with the whole answers of "column read" and "column write", and computed theorems over the rows.
 use mathlib.Core.List.{List, [], ◌∷◌, map}
-use mathlib.Core.Option
-use mathlib.Core.Option.{Option, none, some}
+use Rattle.std.proofs.Common.{Option, None, Some}
+use Rattle.std.specs.Prelude.{option_map}
 use mathlib.Core.Path.{◌≡◌, refl}
 use Prim.Native.String.{String}
 use Prim.Native.Nat.{ℕ}
 use lib.IntN.{ℤ, pos, negsuc}
 use Rattle.columns.specs.Text.{bytes_of, right_justified}
-use Rattle.columns.specs.Column.{decimal_within, decimal_text, number_text, fits_column, column_text, are_digits, is_whole, place_value, whole_number, negative_number, signed_number, after_blanks, column_number}
-use Rattle.columns.specs.Calls.{column_read_answer, column_write_refusal, column_write_exit}
-use Rattle.columns.specs.declared.NumberAnswer.{NumberAnswer}
+use Rattle.columns.specs.Column.{decimal_within, decimal_text, number_text, fits_column, column_text, is_whole, place_value, whole_number, negative_number, signed_number, after_blanks, column_number}
+use Rattle.columns.specs.Calls.{NumberAnswer, column_read_answer, column_write_refusal, column_write_exit}
 
 record Case : Type 0 where
   text : String
@@ -17,39 +16,39 @@ record Case : Type 0 where
 
 abbrev cases : List Case
 cases =
-    record { text = "      -7"; number = some (negsuc 6) }
-    ∷ record { text = "      07"; number = none }
-    ∷ record { text = "      -0"; number = none }
-    ∷ record { text = "       0"; number = some (pos 0) }
-    ∷ record { text = "99999999"; number = some (pos 99999999) }
-    ∷ record { text = "-9999999"; number = some (negsuc 9999998) }
-    ∷ record { text = "        "; number = none }
-    ∷ record { text = "       -"; number = none }
-    ∷ record { text = "  1 2   "; number = none }
-    ∷ record { text = "1       "; number = none }
-    ∷ record { text = "+      7"; number = none }
-    ∷ record { text = "-      7"; number = none }
-    ∷ record { text = "     --7"; number = none }
-    ∷ record { text = "     -07"; number = none }
-    ∷ record { text = "     100"; number = some (pos 100) }
+    record { text = "      -7"; number = Some (negsuc 6) }
+    ∷ record { text = "      07"; number = None }
+    ∷ record { text = "      -0"; number = None }
+    ∷ record { text = "       0"; number = Some (pos 0) }
+    ∷ record { text = "99999999"; number = Some (pos 99999999) }
+    ∷ record { text = "-9999999"; number = Some (negsuc 9999998) }
+    ∷ record { text = "        "; number = None }
+    ∷ record { text = "       -"; number = None }
+    ∷ record { text = "  1 2   "; number = None }
+    ∷ record { text = "1       "; number = None }
+    ∷ record { text = "+      7"; number = None }
+    ∷ record { text = "-      7"; number = None }
+    ∷ record { text = "     --7"; number = None }
+    ∷ record { text = "     -07"; number = None }
+    ∷ record { text = "     100"; number = Some (pos 100) }
     -- a byte too few, and one too many
-    ∷ record { text = "     -7"; number = none }
-    ∷ record { text = "       -7"; number = none }
+    ∷ record { text = "     -7"; number = None }
+    ∷ record { text = "       -7"; number = None }
     ∷ []
 
 -- what is answered: a number, or 13 with 0
 abbrev answered : Option ℤ → NumberAnswer
-answered none = record { refusal = 13; value = pos 0 }
-answered (some z) = record { refusal = 0; value = z }
+answered None = record { refusal = 13; value = pos 0 }
+answered (Some z) = record { refusal = 0; value = z }
 
 -- each text reads as its number, or is refused
 readings : map (λ c. column_read_answer (bytes_of c.text)) cases ≡ map (λ c. answered c.number) cases
-unfolding bytes_of column_read_answer column_number signed_number after_blanks negative_number whole_number is_whole place_value are_digits
+unfolding bytes_of column_read_answer column_number signed_number after_blanks negative_number whole_number is_whole place_value
 readings = refl
 
 -- and each number has its text
-texts : map (λ c. Option.map (column_text 8) c.number) cases
-    ≡ map (λ c. Option.map (λ _. bytes_of c.text) c.number) cases
+texts : map (λ c. option_map (column_text 8) c.number) cases
+    ≡ map (λ c. option_map (λ _. bytes_of c.text) c.number) cases
 unfolding bytes_of column_text number_text decimal_text decimal_within right_justified
 texts = refl
 

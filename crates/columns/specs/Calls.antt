@@ -1,10 +1,9 @@
 -- What the calls of columns answer: the rows "column read" and "column write" of document 01's refusal table.
-use Rattle.std.specs.Prelude.{Bool, cond, not, List, [], ◌∷◌, ℕ, eqb, ℤ, pos, length}
-use Rattle.std.proofs.Math.Option.{Option, none, some}
+use Rattle.std.specs.Prelude.{Bool, cond, not, List, [], ◌∷◌, ℕ, eqb, ℤ, pos, Option, None, Some, Result, Ok, Err, length}
 use Rattle.refusals.specs.Numbers.{no_refusal, not_a_column, wrong_buffer_length}
-use Rattle.refusals.specs.Answers.{first_fault, unless_refused}
+use Rattle.refusals.specs.Answers.{first_fault, number_of, unless_refused}
+use Rattle.refusals.specs.declared.Refusal.{Refusal}
 use Rattle.columns.specs.Column.{column_text, column_number, fits_column}
-use Rattle.columns.specs.declared.NumberAnswer.{NumberAnswer}
 
 -- the width of a column that is read or written alone
 abbrev pub column_width : ℕ
@@ -14,14 +13,24 @@ column_width = 8
 abbrev pub widest_read : ℕ
 widest_read = 18
 
+-- what document 01 has a call that reads answer: a refusal's number, or that of none, and a number
+pub record NumberAnswer : Type 0 where
+  pub refusal : ℕ
+  pub value : ℤ
+
+-- what a result of the code answers: the number, or the refusal's number with 0
+abbrev pub number_answer_of : Result ℤ Refusal → NumberAnswer
+number_answer_of (Ok z) = record { refusal = no_refusal; value = z }
+number_answer_of (Err refusal) = record { refusal = number_of refusal; value = pos 0 }
+
 -- a number, or the refusal of what is none
 abbrev pub reading_of : Option ℤ → NumberAnswer
-reading_of none = record { refusal = not_a_column; value = pos 0 }
-reading_of (some z) = record { refusal = no_refusal; value = z }
+reading_of None = record { refusal = not_a_column; value = pos 0 }
+reading_of (Some z) = record { refusal = no_refusal; value = z }
 
 -- "13 text not 8 bytes of the form"
 unfoldable pub column_read_answer : List ℕ → NumberAnswer
-column_read_answer text = reading_of (cond (eqb (length text) column_width) (column_number text) none)
+column_read_answer text = reading_of (cond (eqb (length text) column_width) (column_number text) None)
 
 -- the check "14 buffer not 8 bytes", for n bytes
 abbrev pub length_check : ℕ → List ℕ → Bool × ℕ

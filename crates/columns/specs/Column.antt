@@ -1,8 +1,8 @@
 -- A number column of any width (document 01, "Columns and the listing"): "right-justified, one digit or more, blanks
 -- before; a minus stands directly before the digits; no leading zero but the single 0, and no −0".
 -- `column_text` is the column of a number, and `column_number` reads one; that they agree is shown in proofs/Column.antt.
-use Rattle.std.specs.Prelude.{Bool, true, false, cond, not, ◌&&◌, List, [], ◌∷◌, ◌++◌, ℕ, zero, suc, ◌+◌, ◌-◌, ◌*◌, ◌/◌, ◌%◌, ◌^◌, eqb, leb, ltb, ℤ, pos, negsuc, neg_ℤ, length}
-use Rattle.std.proofs.Math.Option.{Option, none, some}
+use Rattle.std.specs.Prelude.{Bool, false, cond, not, ◌&&◌, List, [], ◌∷◌, ◌++◌, ℕ, zero, suc, ◌+◌, ◌-◌, ◌*◌, ◌/◌, ◌%◌, ◌^◌, eqb, leb, ltb, ℤ, pos, negsuc, neg_ℤ, Option, None, Some, length}
+use Rattle.std.specs.List.{list_all}
 use Rattle.columns.specs.Text.{blank, minus, digit_zero, right_justified}
 
 -- the byte of a digit below 10
@@ -36,9 +36,8 @@ column_text w z = right_justified w (number_text z)
 abbrev pub is_digit : ℕ → Bool
 is_digit b = leb digit_zero b && ltb b (digit_zero + 10)
 
-unfoldable pub are_digits : List ℕ → Bool
-are_digits [] = true
-are_digits (b ∷ text) = is_digit b && are_digits text
+abbrev pub are_digits : List ℕ → Bool
+are_digits text = list_all is_digit text
 
 -- "one digit or more", "no leading zero but the single 0"
 unfoldable pub is_whole : List ℕ → Bool
@@ -53,16 +52,16 @@ place_value (b ∷ text) = (b - digit_zero) * 10 ^ length text + place_value tex
 
 -- the number of a text of digits
 unfoldable pub whole_number : List ℕ → Option ℤ
-whole_number text = cond (is_whole text) (some (pos (place_value text))) none
+whole_number text = cond (is_whole text) (Some (pos (place_value text))) None
 
 -- the number of a text of digits that a minus stands before: "no −0"
 unfoldable pub negative_number : List ℕ → Option ℤ
 negative_number text =
-    cond (is_whole text && not (eqb (place_value text) 0)) (some (neg_ℤ (pos (place_value text)))) none
+    cond (is_whole text && not (eqb (place_value text) 0)) (Some (neg_ℤ (pos (place_value text)))) None
 
 -- the number of a text without blanks before it
 unfoldable pub signed_number : List ℕ → Option ℤ
-signed_number [] = none
+signed_number [] = None
 signed_number (b ∷ text) = cond (eqb b minus) (negative_number text) (whole_number (b ∷ text))
 
 -- what is left of a text after the blanks that it begins with

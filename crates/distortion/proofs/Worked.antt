@@ -5,7 +5,7 @@ use Prim.Native.Nat.{ℕ}
 use lib.ListN.{replicate}
 use Rattle.algebra.specs.Largest.{largest}
 use Rattle.algebra.specs.Weighted.{sum_over}
-use Rattle.refusals.specs.declared.Answer.{Answer}
+use Rattle.refusals.specs.Answers.{Answer}
 use Rattle.wide_numbers.specs.Squares.{sum_of_squares}
 use Rattle.distortion.specs.Distortion.{distortion_of, distortion_answer}
 

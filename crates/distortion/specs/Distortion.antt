@@ -2,8 +2,7 @@
 use Rattle.std.specs.Prelude.{Bool, List, [], ◌∷◌, ℕ, ◌*◌, eqb, leb, get_or, drop}
 use Rattle.algebra.specs.Largest.{largest}
 use Rattle.refusals.specs.Numbers.{no_fundamental}
-use Rattle.refusals.specs.Answers.{first_fault, answer}
-use Rattle.refusals.specs.declared.Answer.{Answer}
+use Rattle.refusals.specs.Answers.{first_fault, Answer, answer}
 use Rattle.wide_numbers.specs.Squares.{sum_of_squares}
 
 -- the square of the parts per thousand in 1

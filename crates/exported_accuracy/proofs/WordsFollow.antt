@@ -13,7 +13,7 @@ use lib.IntN.{ℤ}
 use lib.ListN.{length, get_or, take, drop, replicate, length-replicate, length-take, take-append-drop, drop_of_length-le}
 use lib.Seq.{take_all}
 use borrow.Author.Tests.{eqb-true, eq-eqb, ne_eqb, le-leb, lt-leb}
-use Rattle.algebra.specs.Lists.{any_of}
+use Rattle.std.specs.List.{list_any}
 use Rattle.algebra.proofs.Lists.{length-tabulate}
 use Rattle.refusals.specs.Numbers.{no_refusal, unknown_system, unknown_edition}
 use Rattle.refusals.specs.Answers.{first_fault, unless_refused}
@@ -40,8 +40,8 @@ use Rattle.accuracy.specs.CallList.{CallList, after, accepted}
 use Rattle.accuracy.specs.Claim.{observed_list}
 use Rattle.accuracy.proofs.AcceptedCalls.{each-accepted-front}
 use Rattle.accuracy.proofs.ObservedRows.{observed-setup}
-use Rattle.kind_numbers.specs.Kinds.{unknown_kind, is_kind, kind_with}
-use Rattle.exported_answers.specs.OwnChecks.{wrong_word_count, word_count_check, own_first}
+use Rattle.kind_numbers.specs.Kinds.{is_kind, kind_with}
+use Rattle.exported_answers.specs.OwnChecks.{unknown_kind, wrong_word_count, word_count_check, own_first}
 use Rattle.record_words.specs.Halves.{half_base}
 use Rattle.record_words.specs.Words.{latest_words, record_parts, record_words, parts_of, words_of, record_of, Whole}
 use Rattle.record_words.proofs.Halves.{packed-length}
@@ -95,7 +95,7 @@ zero-fits : (values : List ℕ) → none_above 0 values ≡ true → (i : ℕ) �
 zero-fits values zeros i = omega (arith, get_or-le-of-none-above 0 values i zeros)
 
 empty-whole : (setup : Setup) → Whole (empty_record setup)
-unfolding empty_record none_above any_of
+unfolding empty_record none_above
 empty-whole setup =
     let whole = empty-parts setup in
     record {

@@ -10,7 +10,8 @@ use Prim.Native.Nat.{ℕ, ◌-◌}
 use native.Mathlib.Omega.{arith}
 use lib.IntN.{ℤ, pos}
 use lib.ListN.{length, replicate}
-use Rattle.algebra.specs.Lists.{tabulate, any_of}
+use Rattle.algebra.specs.Lists.{tabulate}
+use Rattle.std.specs.List.{list_any}
 use Rattle.windows.specs.Window.{window_at, out_of_range, InRange}
 use Rattle.spectral_lines.specs.Line.{lines_of}
 use Rattle.kinds.specs.declared.Kind.{Kind}
@@ -88,7 +89,7 @@ module _ (kind : Kind) (window next : List ℤ) where
       (edition : ℕ) → is_edition edition ≡ true →
       (list_after none (calls 1 edition) ≡ some (list_of kind window next 1 edition)) ×
       (list_after none (calls 15 edition) ≡ some (list_of kind window next 15 edition))
-  unfolding calls list_after list_at_exit list_asked with_call is_kind kinds observe_refusal observe_checks window_rows window_at out_of_range any_of is_setup is_system is_edition group_values tabulate list_of worked_row other_rows
+  unfolding calls list_after list_at_exit list_asked with_call is_kind kinds observe_refusal observe_checks window_rows window_at out_of_range is_setup is_system is_edition group_values tabulate list_of worked_row other_rows
   calls-come-to =
       each-edition
       (λ edition.

@@ -7,7 +7,8 @@ use native.Mathlib.Omega.{arith}
 use lib.Dec.{lit<}
 use lib.IntN.{pos}
 use lib.ListN.{replicate}
-use Rattle.algebra.specs.Lists.{tabulate, any_of}
+use Rattle.algebra.specs.Lists.{tabulate}
+use Rattle.std.specs.List.{list_any}
 use Rattle.algebra.specs.Rounding.{nearest, rounded_up}
 use Rattle.refusals.specs.Numbers.{no_refusal}
 use Rattle.rows.specs.Orders.{is_order}
@@ -74,7 +75,7 @@ row_left w = row_call_exit 1 at12 (lines_left (window w)) row_words
 
 -- kifsang_add_row is not refused
 row-added : (w : Two) → add_row_call_refusal record_held at12 (row_left w) ≡ no_refusal
-unfolding add_row_call_refusal add_row_refusal row_checks same_setup is_system is_edition is_setup is_sound none_above all_zero any_of record_of of_parts parts_from words_from unpacked tabulate
+unfolding add_row_call_refusal add_row_refusal row_checks same_setup is_system is_edition is_setup is_sound none_above all_zero record_of of_parts parts_from words_from unpacked tabulate
 row-added w = rw (row_count 1 at12 (lines_left (window w)) row_words (row-not-refused w))
 
 -- it leaves 1223 after the pulse and 0 after no signal

@@ -1,29 +1,26 @@
--- An answer of the library as the caller receives it, after the call's own checks.
-use mathlib.Core.Path.{◌≡◌, refl, ◌∙◌}
+-- What an exported call leaves, from what its inner function answers.
+use mathlib.Core.Path.{◌≡◌, refl, sym, ◌∙◌}
 use mathlib.Core.Bool.{Bool, true, false, cond, not}
 use mathlib.Core.List.{List}
-use Prim.Native.Nat.{ℕ}
+use Prim.Native.Nat.{ℕ, ◌<◌}
 use native.Mathlib.Omega.{arith}
 use lib.Dec.{eqb}
 use lib.ListN.{length}
 use borrow.Author.Tests.{eqb-true, eqb-false, ne_eqb, not-false}
+use Rattle.std.specs.Prelude.{Result, Ok, Err, IfOk, OnOk}
+use Rattle.std.specs.Result.{result_unwrap_or}
 use Rattle.refusals.specs.Numbers.{no_refusal}
-use Rattle.refusals.specs.Answers.{unless_refused, answer}
-use Rattle.refusals.specs.declared.Answer.{Answer}
-use Rattle.refusals.proofs.Answers.{no-fault, received-eq}
+use Rattle.refusals.specs.Answers.{unless_refused}
+use Rattle.refusals.proofs.Answers.{no-fault, unless_refused-accepted}
+use Rattle.refusals.proofs.Results.{number_is_positive}
+use Rattle.exported_answers.specs.declared.CallRefusal.{CallRefusal}
+use Rattle.exported_answers.specs.declared.CallRefusal.TheVariants.{UnknownKind, WrongWordCount, Library}
 use Rattle.exported_answers.specs.OwnChecks.{wrong_word_count}
+use Rattle.lists.proofs.LentWords.{words_from-whole}
+use Rattle.rows.specs.declared.Row.{Row}
+use Rattle.exported_answers.specs.CallRefusals.{call_number_of, call_refusal_of, values_left}
 
 -- ---- the call's own checks
-
--- where one of them finds a fault, the call answers its number and leaves what was there
-pub own-refused :
-    {A : Type 0} (own row refusal : ℕ) (accepted before : A) →
-    refusal ≡ own →
-    (refusal ≡ no_refusal → ⊥) →
-    (refusal ≡ unless_refused own row own) × (before ≡ unless_refused (unless_refused own row own) accepted before)
-own-refused own row refusal accepted before e fault =
-    let found = ne_eqb refusal no_refusal fault in
-    rw (← e, found, found) (refl, refl)
 
 -- where neither they nor the row of document 01's table refuse, the row does not
 pub own-first-none : (own row : ℕ) → unless_refused own row own ≡ no_refusal → row ≡ no_refusal
@@ -42,14 +39,60 @@ count-passed count rest words e =
     let passed = no-fault (not (eqb (length words) count)) wrong_word_count rest (omega arith) e in
     (eqb-true (length words) count (not-false _ passed.0), passed.1)
 
--- ---- the library's answer
+-- ---- the inner function's answer
 
--- an answer: the refusal, and the value unless it is refused
-pub handed-answer :
-    (refusal accepted before received exit : ℕ) (a : Answer) →
-    a ≡ answer refusal accepted →
-    (received ≡ a.refusal) × (exit ≡ unless_refused a.refusal a.value before) →
-    (received ≡ refusal) × (exit ≡ unless_refused refusal accepted before)
-handed-answer refusal accepted before received exit a e handed =
-    let answered = rw e at handed in
-    (answered.0, answered.1 ∙ received-eq (λ (v : ℕ). v) refusal accepted 0 before)
+-- a refusal's number is not that of none
+pub call_number_is_positive : (refusal : CallRefusal) → 0 < call_number_of refusal
+call_number_is_positive UnknownKind = omega arith
+call_number_is_positive WrongWordCount = omega arith
+call_number_is_positive (Library refusal) = number_is_positive refusal
+
+pub refused_call_is_no_acceptance : (refusal : CallRefusal) → eqb (call_number_of refusal) no_refusal ≡ false
+refused_call_is_no_acceptance refusal =
+    let positive : 0 < call_number_of refusal = call_number_is_positive refusal in
+    ne_eqb (call_number_of refusal) no_refusal (λ e. omega (arith, e))
+
+-- what is handed over of it is the definitions': the value where nothing is refused, and else what was there
+pub handed_over : {A : Type 0} (result : Result A CallRefusal) (refusal : ℕ) (accepted before : A) →
+    call_refusal_of result ≡ refusal → IfOk result (λ value. value ≡ accepted) →
+    result_unwrap_or result before ≡ unless_refused refusal accepted before
+handed_over (Ok value) refusal accepted before e v = v ∙ sym (unless_refused-accepted refusal accepted before (sym e))
+handed_over (Err r) refusal accepted before e v = rw (← e, refused_call_is_no_acceptance r)
+
+-- and the values of a row, for as many of which there is room where nothing is refused
+pub handed_over_row : (result : Result Row CallRefusal) (refusal count : ℕ) (accepted before : List ℕ) →
+    call_refusal_of result ≡ refusal → IfOk result (λ row. row.values ≡ accepted) →
+    length accepted ≡ count → OnOk result (length before ≡ count) →
+    values_left result before ≡ unless_refused refusal accepted before
+handed_over_row (Ok row) refusal count accepted before e same whole room =
+    rw same (words_from-whole accepted (length before) (whole ∙ sym room) ∙ sym (unless_refused-accepted refusal accepted before (sym e)))
+handed_over_row (Err r) refusal count accepted before e same whole room = rw (← e, refused_call_is_no_acceptance r)
+
+-- ---- the number of a call whose own checks come first, and then the library's
+
+module _ (own row : ℕ) where
+  -- an own check finds a fault
+  pub own_fault_first : (refusal : CallRefusal) → call_number_of refusal ≡ own → call_number_of refusal ≡ unless_refused own row own
+  own_fault_first refusal e = rw (← e, refused_call_is_no_acceptance refusal)
+
+  -- none does, so that the library's answer decides
+  pub library_next : (refusal : ℕ) → no_refusal ≡ own → refusal ≡ row → refusal ≡ unless_refused own row own
+  library_next refusal passed e = rw (← passed) e
+
+-- of two own checks in turn: the first finds its fault, or it does not and the other decides
+module _ (fault : Bool) (number rest : ℕ) where
+  pub first_of_two : (row : ℕ) (refusal : CallRefusal) → call_number_of refusal ≡ cond fault number no_refusal →
+      call_number_of refusal ≡ unless_refused (cond fault number rest) row (cond fault number rest)
+  first_of_two row refusal = by-fault fault
+    where
+      by-fault : (there : Bool) → call_number_of refusal ≡ cond there number no_refusal →
+          call_number_of refusal ≡ unless_refused (cond there number rest) row (cond there number rest)
+      by-fault true e = own_fault_first number row refusal e
+      by-fault false e = let positive : 0 < call_number_of refusal = call_number_is_positive refusal in absurd (omega arith)
+
+  pub second_of_two : 0 < number → no_refusal ≡ cond fault number no_refusal → cond fault number rest ≡ rest
+  second_of_two positive = by-fault fault
+    where
+      by-fault : (there : Bool) → no_refusal ≡ cond there number no_refusal → cond there number rest ≡ rest
+      by-fault true e = absurd (omega arith)
+      by-fault false e = refl

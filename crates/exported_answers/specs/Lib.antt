@@ -1,2 +1,3 @@
 -- What an exported call checks itself.
 pub mod OwnChecks
+pub mod CallRefusals

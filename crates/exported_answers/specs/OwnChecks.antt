@@ -2,6 +2,10 @@
 use Rattle.std.specs.Prelude.{Bool, not, List, ℕ, eqb, length}
 use Rattle.refusals.specs.Answers.{first_fault, unless_refused}
 
+-- a number that stands for no kind
+abbrev pub unknown_kind : ℕ
+unknown_kind = 101
+
 -- a slice of the wrong number of words for a row or a record
 abbrev pub wrong_word_count : ℕ
 wrong_word_count = 102

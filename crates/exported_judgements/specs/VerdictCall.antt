@@ -4,8 +4,6 @@ use Rattle.refusals.specs.Answers.{unless_refused}
 use Rattle.verdict.specs.declared.Question.{Question}
 use Rattle.verdict.specs.declared.Verdict.{Verdict}
 use Rattle.verdict.specs.declared.Verdict.TheVariants.{Within, Close, Over}
-use Rattle.verdict.specs.declared.VerdictAnswer.{VerdictAnswer}
-use Rattle.verdict.specs.declared.VerdictAnswer.TheVariants.{Given, Refused}
 use Rattle.verdict.specs.Call.{verdict_of, verdict_refusal}
 use Rattle.exported_answers.specs.OwnChecks.{own_first, word_count_check}
 use Rattle.record_words.specs.Words.{record_words, record_of}
@@ -15,11 +13,6 @@ unfoldable pub verdict_number : Verdict → ℕ
 verdict_number (Within order) = 1
 verdict_number (Close order) = 2
 verdict_number (Over order) = 3
-
--- the number that an answer leaves in place of another
-unfoldable pub number_left : VerdictAnswer → ℕ → ℕ
-number_left (Given verdict) before = verdict_number verdict
-number_left (Refused refusal) before = before
 
 -- 102; then the row "verdict"
 unfoldable pub verdict_call_refusal : List ℕ → Question → ℕ

@@ -1,20 +1,28 @@
 // The three-second value of an order, for callers in other languages.
-ghost use Rattle.std.specs.Prelude.{◌≡◌};
+ghost use Rattle.std.specs.Prelude.{[], ◌∷◌, ◌≡◌, IfOk};
+ghost use Rattle.three_seconds.specs.ThreeSecond.{three_second_in, three_second_refusal};
+ghost use Rattle.exported_answers.specs.OwnChecks.{own_first, word_count_check};
+ghost use Rattle.exported_answers.specs.CallRefusals.{call_refusal_of};
+ghost use Rattle.record_words.specs.Words.{record_words, record_read};
 ghost use Rattle.exported_judgements.specs.ThreeSecondCall.{three_second_call_refusal, three_second_call_exit};
 
-use exported_answers::{WRONG_WORD_COUNT, hand_over};
+use exported_answers::{CallRefusal, check_word_count, hand_over};
 use record_words::{RECORD_WORDS, read_record};
-use refusals::{NO_REFUSAL, fault_or};
-use three_seconds::three_second_value;
+
+// The three-second value of an order of the record that some words hold.
+#[tactic(auto, using(exported_answers::proofs::Handed::own_fault_first, exported_answers::proofs::Handed::library_next), unfolding(three_seconds::specs::ThreeSecond::three_second_answer))]
+fn three_second_value(words: &[u64], order: u32) -> Result<u64, CallRefusal>
+    ensures refusal { call_refusal_of result ≡ own_first (word_count_check record_words words.now ∷ []) (three_second_refusal (record_read words.now) order) }
+    ensures accepted { IfOk result (λ value. value ≡ three_second_in (record_read words.now) order) }
+{
+    check_word_count(words.len(), RECORD_WORDS)?;
+    Ok(three_seconds::three_second_value(&read_record(words), order)?)
+}
 
 // Writes the three-second value of an order.
 pub fn kifsang_three_second_value(words: &[u64], order: u32, value: &mut u64) -> u32
     ensures value { result ≡ three_second_call_refusal words.now order }
     ensures value_after { value.new ≡ three_second_call_exit words.now order value.old }
 {
-    let own = fault_or(words.len() != RECORD_WORDS, WRONG_WORD_COUNT, NO_REFUSAL);
-    if own != NO_REFUSAL {
-        return own;
-    }
-    hand_over(three_second_value(read_record(words), order), value)
+    hand_over(three_second_value(words, order), value)
 }

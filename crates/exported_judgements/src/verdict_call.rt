@@ -1,16 +1,19 @@
 // The verdict of an order, for callers in other languages.
-ghost use Rattle.std.specs.Prelude.{◌≡◌};
+ghost use Rattle.std.specs.Prelude.{[], ◌∷◌, ◌≡◌, IfOk};
 ghost use Rattle.verdict.specs.Question.{asked};
-ghost use Rattle.verdict.specs.Call.{refusal_number};
-ghost use Rattle.exported_judgements.specs.VerdictCall.{number_left, verdict_number, verdict_call_refusal, verdict_call_exit};
+ghost use Rattle.verdict.specs.Call.{verdict_of, verdict_refusal};
+ghost use Rattle.exported_answers.specs.OwnChecks.{own_first, word_count_check};
+ghost use Rattle.exported_answers.specs.CallRefusals.{call_refusal_of};
+ghost use Rattle.record_words.specs.Words.{record_words, record_read};
+ghost use Rattle.exported_judgements.specs.VerdictCall.{verdict_number, verdict_call_refusal, verdict_call_exit};
 
-use exported_answers::WRONG_WORD_COUNT;
+use exported_answers::{CallRefusal, check_word_count, hand_over};
 use record_words::{RECORD_WORDS, read_record};
-use refusals::{NO_REFUSAL, fault_or};
-use verdict::{Question, Verdict, VerdictAnswer, order_verdict};
+use verdict::{Question, Verdict};
 
 // The number of each case of a verdict. 0 is none, so that a variable that was zeroed and that no
 // call wrote says nothing.
+#[tactic(auto, unfolding(crate::specs::VerdictCall::verdict_number))]
 fn verdict_number(verdict: Verdict) -> u32
     ensures { result ≡ verdict_number verdict }
 {
@@ -21,18 +24,15 @@ fn verdict_number(verdict: Verdict) -> u32
     }
 }
 
-// Hands an answered verdict to the caller: its number, unless it is a refusal, and the refusal's.
-fn hand_over_verdict(answer: VerdictAnswer, verdict: &mut u32) -> u32
-    ensures value { result ≡ refusal_number answer }
-    ensures verdict_after { verdict.new ≡ number_left answer verdict.old }
+// The number of the verdict of what is asked of the record that some words hold.
+#[tactic(auto, using(exported_answers::proofs::Handed::own_fault_first, exported_answers::proofs::Handed::library_next), unfolding(verdict::specs::Call::verdict_answer))]
+fn order_verdict(words: &[u64], question: Question) -> Result<u32, CallRefusal>
+    ensures refusal { call_refusal_of result ≡ own_first (word_count_check record_words words.now ∷ []) (verdict_refusal (record_read words.now) question) }
+    ensures accepted { IfOk result (λ number. number ≡ verdict_number (verdict_of (record_read words.now) question)) }
 {
-    match answer {
-        VerdictAnswer::Given(given) => {
-            *verdict = verdict_number(given);
-            NO_REFUSAL
-        }
-        VerdictAnswer::Refused(refusal) => refusal,
-    }
+    check_word_count(words.len(), RECORD_WORDS)?;
+    let verdict = verdict::order_verdict(&read_record(words), question)?;
+    Ok(verdict_number(verdict))
 }
 
 // Writes the number of the verdict of an order in a class.
@@ -40,15 +40,10 @@ pub fn kifsang_verdict(words: &[u64], order: u32, letter: u8, scale: u32, verdic
     ensures value { result ≡ verdict_call_refusal words.now (asked order letter scale) }
     ensures verdict_after { verdict.new ≡ verdict_call_exit words.now (asked order letter scale) verdict.old }
 {
-    let own = fault_or(words.len() != RECORD_WORDS, WRONG_WORD_COUNT, NO_REFUSAL);
-    if own != NO_REFUSAL {
-        return own;
-    }
     let question = Question {
         order,
         letter,
         scale,
     };
-    let answer = order_verdict(read_record(words), question);
-    hand_over_verdict(answer, verdict)
+    hand_over(order_verdict(words, question), verdict)
 }

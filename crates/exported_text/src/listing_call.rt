@@ -1,12 +1,32 @@
 // The listing, for callers in other languages.
-ghost use Rattle.std.specs.Prelude.{◌≡◌};
+ghost use Rattle.std.specs.Prelude.{◌≡◌, length, IfOk};
+ghost use Rattle.listing.specs.Listing.{listing_text};
+ghost use Rattle.exported_answers.specs.CallRefusals.{call_refusal_of};
 ghost use Rattle.exported_text.specs.ListingCall.{listing_call_refusal, listing_call_exit, listing_call_count_exit};
 
-use exported_answers::{WRONG_WORD_COUNT, hand_over};
-use refusals::{NO_REFUSAL, fault_or};
+use exported_answers::{CallRefusal, check_word_count, hand_over};
 use rows::ORDER_COUNT;
 
+// Fills the buffer with the listing of three rows that are lent as words, and answers the count of its bytes.
+#[tactic(auto, using(exported_answers::proofs::Handed::own_fault_first, exported_answers::proofs::Handed::library_next, refusals::proofs::Results::refused_is_no_acceptance), unfolding(crate::specs::ListingCall::listing_call_refusal, crate::specs::ListingCall::listing_call_exit, listing::specs::Listing::listing_exit))]
+fn fill_listing(
+    group: &[u32],
+    subgroup: &[u32],
+    smoothed: &[u32],
+    buffer: &mut [u8],
+) -> Result<u64, CallRefusal>
+    ensures refusal { call_refusal_of result ≡ listing_call_refusal group.now subgroup.now smoothed.now buffer.old }
+    ensures accepted { IfOk result (λ count. count ≡ length (listing_text group.now subgroup.now smoothed.now)) }
+    ensures buffer_after { buffer.new ≡ listing_call_exit group.now subgroup.now smoothed.now buffer.old }
+{
+    check_word_count(group.len(), ORDER_COUNT)?;
+    check_word_count(subgroup.len(), ORDER_COUNT)?;
+    check_word_count(smoothed.len(), ORDER_COUNT)?;
+    Ok(listing::fill_listing(group, subgroup, smoothed, buffer)? as u64)
+}
+
 // Writes the listing of the 40 orders' values and the count of its bytes.
+#[tactic(auto, using(exported_answers::proofs::Handed::handed_over), unfolding(crate::specs::ListingCall::listing_call_count_exit))]
 pub fn kifsang_fill_listing(
     group: &[u32],
     subgroup: &[u32],
@@ -18,16 +38,5 @@ pub fn kifsang_fill_listing(
     ensures buffer_after { buffer.new ≡ listing_call_exit group.now subgroup.now smoothed.now buffer.old }
     ensures written_after { written.new ≡ listing_call_count_exit group.now subgroup.now smoothed.now buffer.old written.old }
 {
-    let wrong_smoothed = fault_or(smoothed.len() != ORDER_COUNT, WRONG_WORD_COUNT, NO_REFUSAL);
-    let wrong_subgroup = fault_or(
-        subgroup.len() != ORDER_COUNT,
-        WRONG_WORD_COUNT,
-        wrong_smoothed,
-    );
-    let own = fault_or(group.len() != ORDER_COUNT, WRONG_WORD_COUNT, wrong_subgroup);
-    if own != NO_REFUSAL {
-        return own;
-    }
-    let answer = listing::fill_listing(group, subgroup, smoothed, buffer);
-    hand_over(answer, written)
+    hand_over(fill_listing(group, subgroup, smoothed, buffer), written)
 }

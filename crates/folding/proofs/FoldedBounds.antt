@@ -10,9 +10,9 @@ use native.Mathlib.Omega.{arith}
 use lib.Dec.{ltb}
 use lib.IntN.{ℤ, neg_ℤ, nat_abs, ◌+ℤ◌, ◌-ℤ◌}
 use lib.Pow.{pow_pos}
-use Rattle.algebra.specs.Lists.{any_of}
+use Rattle.std.specs.List.{list_any}
 use Rattle.algebra.proofs.Integer.{nat_abs-+ℤ-le, nat_abs-negℤ}
-use Rattle.windows.specs.Window.{largest_sample, out_of_range}
+use Rattle.windows.specs.Window.{largest_sample, out_of_range, InRange}
 use Rattle.spectral_lines.specs.Folding.{held_by, folded, paired}
 use Rattle.folding.specs.Halving.{largest_folded, Bounded, halved, halved_from, folded_window}
 use Rattle.windows.proofs.Samples.{sample-le}
@@ -85,7 +85,7 @@ left-bounded c (suc d) after few bound f bounded p above below =
     (eq-or-lt_of_le (le_of_suc-le-suc after))
 
 -- a folded window
-module _ (window : List ℤ) (in-range : any_of out_of_range window ≡ false) where
+module _ (window : List ℤ) (in-range : list_any out_of_range window ≡ false) where
   pub paired-bounded : Bounded (2 * largest_sample) (paired (held_by window))
   paired-bounded = folded-bounded 1 2047 largest_sample (held_by window) (sample-le window in-range)
 
@@ -96,3 +96,14 @@ module _ (window : List ℤ) (in-range : any_of out_of_range window ≡ false) w
   pub folded_window-left : (c : ℕ) → c ≤ 9 → (p : ℕ) → 2 ^ c < p → p < 2049 - 2 ^ c → nat_abs (folded_window window p) * 2 ^ c ≤ largest_folded
   unfolding folded_window
   folded_window-left c few = left-bounded c 10 (omega arith) (omega arith) (2 * largest_sample) (paired (held_by window)) paired-bounded
+
+-- ---- what the foldings of a window need
+
+pub sample_small : (window : List ℤ) (p : ℕ) → InRange window → nat_abs (held_by window p) ≤ 2 ^ 29
+sample_small window p in-range = omega (arith, sample-le window in-range.samples p)
+
+pub pair_small : (window list : List ℤ) (p : ℕ) → held_by list ≡ paired (held_by window) → InRange window → nat_abs (held_by list p) ≤ 2 * largest_sample
+pair_small window list p same in-range =
+    bounded-same (2 * largest_sample) (held_by list) (paired (held_by window)) same (paired-bounded window in-range.samples) p
+
+pub ruleset window_bounds = (sample_small, pair_small)

@@ -15,6 +15,7 @@ use Rattle.windows.specs.Window.{window_length, window_at}
 use Rattle.windows.specs.Checks.{window_refusal}
 use Rattle.windows.proofs.Accepted.{window-accepted}
 use Rattle.spectral_lines.specs.Folding.{held_by, folded, paired}
+use Rattle.spectral_lines.proofs.PartAccepted.{accepted_window}
 use Rattle.spectral_lines.proofs.FoldedPlaces.{folded_after}
 use Rattle.folding.specs.Halving.{halved, halved_from, folded_window}
 use Rattle.folding.specs.Folded.{folded_list, folded_exit}
@@ -62,3 +63,6 @@ module _ (recording : List ℤ) (start : ℕ) (wrong_count : Bool) (list : List 
 
   pub exit-held : held_by (folded_exit recording start wrong_count list) ≡ folded_window (window_at recording start)
   exit-held = ap held_by exit-is ∙ folded_list-held (window_at recording start) (window-accepted recording start wrong_count passed).in-range.whole-window
+
+-- what the call's proof cites
+pub ruleset folded_calls = (accepted_window, list-of-held)

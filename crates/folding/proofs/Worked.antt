@@ -5,7 +5,6 @@ use mathlib.Core.Path.{◌≡◌, refl, ap, ◌∙◌}
 use Prim.Native.Nat.{ℕ}
 use lib.IntN.{ℤ, pos, negsuc}
 use lib.ListN.{replicate}
-use Rattle.algebra.specs.Lists.{any_of}
 use Rattle.refusals.specs.Numbers.{no_refusal}
 use Rattle.windows.specs.Window.{window_at, out_of_range}
 use Rattle.windows.specs.Checks.{window_refusal}
@@ -30,7 +29,7 @@ four_samples =
     ++ pos 1000 ∷ replicate 423 (pos 0)
 
 taken : window_refusal four_samples 1 false ≡ no_refusal
-unfolding window_refusal window_at any_of out_of_range
+unfolding window_refusal window_at out_of_range
 taken = refl
 
 abbrev places : List ℕ
@@ -85,5 +84,5 @@ called c = (
 
 -- a refused call leaves what it was lent
 refused-worked : map called refused ≡ map (λ c. (c.refusal, sevens)) refused
-unfolding window_refusal folded_exit window_at any_of out_of_range
+unfolding window_refusal folded_exit window_at out_of_range
 refused-worked = refl

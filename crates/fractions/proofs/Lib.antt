@@ -1,2 +1,3 @@
 -- The theorems of fractions by their parts.
 pub mod Parts
+mod Cross

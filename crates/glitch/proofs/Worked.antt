@@ -12,7 +12,8 @@ use lib.IntN.{ℤ, pos, negsuc, nat_abs, ◌+ℤ◌, ◌-ℤ◌, ◌*ℤ◌}
 use lib.ListN.{replicate}
 use Rattle.algebra.specs.Integers.{square}
 use Rattle.algebra.specs.Largest.{largest}
-use Rattle.algebra.specs.Lists.{tabulate, any_of}
+use Rattle.algebra.specs.Lists.{tabulate}
+use Rattle.std.specs.List.{list_any}
 use Rattle.algebra.specs.Rounding.{nearest, nearestℤ, floor_over, rounded_up}
 use Rattle.algebra.specs.Weighted.{sum_over}
 use Rattle.square_root.specs.Root.{root_of}
@@ -28,9 +29,8 @@ use Rattle.rows.specs.Orders.{is_order}
 use Rattle.rows.specs.Systems.{is_system}
 use Rattle.rows.specs.Editions.{is_edition}
 use Rattle.rows.specs.Setups.{setup_of, is_setup}
-use Rattle.rows.specs.Rows.{ValuesFit}
+use Rattle.rows.specs.Rows.{ValuesFit, RowAnswer}
 use Rattle.rows.specs.declared.Row.{Row}
-use Rattle.rows.specs.declared.RowAnswer.{RowAnswer}
 use Rattle.rows.specs.declared.Setup.{Setup}
 use Rattle.kinds.specs.declared.Kind.TheVariants.{HarmonicGroup, HarmonicSubgroup}
 use Rattle.kinds.specs.Kinds.{span_of, grouped_as}
@@ -61,7 +61,7 @@ abbrev pub Fits : ℤ → Type 0
 Fits sample = nat_abs sample ≤ largest_sample
 
 pub taken : (a b : ℤ) → Fits a → Fits b → spectrum_refusal (two_samples a b) 0 lent ≡ no_refusal
-unfolding spectrum_refusal window_at any_of out_of_range two_samples
+unfolding spectrum_refusal window_at out_of_range two_samples
 taken a b fits also = rw (le-ltb largest_sample (nat_abs a) fits, le-ltb largest_sample (nat_abs b) also)
 
 -- its samples are these

@@ -3,7 +3,7 @@ use Rattle.std.specs.Prelude.{◌≡◌, true, ℕ, ◌+◌, ◌*◌, ◌-◌, �
 use Rattle.algebra.specs.Rounding.{rounded_up}
 use Rattle.refusals.specs.Numbers.{no_refusal}
 use Rattle.rows.specs.Setups.{is_setup}
-use Rattle.rows.specs.declared.RowAnswer.{RowAnswer}
+use Rattle.rows.specs.Rows.{RowAnswer}
 use Rattle.rows.specs.declared.Setup.{Setup}
 use Rattle.kinds.specs.declared.Kind.{Kind}
 use Rattle.groups.specs.Group.{group_answer, group_row_answer}

@@ -3,14 +3,16 @@ use mathlib.Core.Path.{◌≡◌, refl, sym, ap, ◌∙◌}
 use mathlib.Core.Bool.{true, false}
 use mathlib.Core.List.{List}
 use Prim.Native.Nat.{ℕ, ◌+◌, ◌-◌, ◌^◌, ◌≤◌, ◌<◌}
+use native.Mathlib.Nat.{mod-eq_of_lt}
 use native.Mathlib.Decide.{ℕ_discrete}
 use native.Mathlib.Omega.{arith}
 use lib.Dec.{ltb, lit<}
 use lib.IntN.{ℤ}
 use lib.ListN.{length, get_or, replicate}
 use borrow.Author.Tests.{eqb-true, eq-eqb, ne_eqb, not-false}
-use Rattle.algebra.specs.Lists.{tabulate, any_of}
-use Rattle.algebra.proofs.Lists.{length-tabulate, get_or-tabulate, get_or-tabulate-le, tabulate-same}
+use Rattle.algebra.specs.Lists.{tabulate}
+use Rattle.std.specs.List.{list_any}
+use Rattle.algebra.proofs.Lists.{length-tabulate, get_or-tabulate, get_or-tabulate-le, tabulate-same, tabulate-eq, tabulate-whole}
 use Rattle.square_root.proofs.RootLaws.{lt-root_limit, root-of-largest, root-le-of-le}
 use Rattle.refusals.specs.Numbers.{no_refusal, unknown_system, unknown_edition, order_out_of_range, wrong_line_count, line_too_large}
 use Rattle.refusals.proofs.Answers.{no-faults, unless_refused-accepted, unless_refused-refused}
@@ -37,7 +39,7 @@ pub record Accepted (setup : Setup) (order : ℕ) (lines : List ℕ) : Type 0 wh
   pub known-setup : is_setup setup ≡ true
   pub known-order : is_order order ≡ true
   pub line-count : length lines ≡ line_count
-  pub in-range : any_of (ltb largest_line) lines ≡ false
+  pub in-range : list_any (ltb largest_line) lines ≡ false
 
 pub accepted : (setup : Setup) (order : ℕ) (lines : List ℕ) → group_refusal setup order lines ≡ no_refusal → Accepted setup order lines
 unfolding group_refusal
@@ -126,15 +128,32 @@ module _ (kind : Kind) (setup : Setup) (lines : List ℕ) where
       by-refusal (yes e) = rw e
       by-refusal (no f) = rw (ne_eqb (group_row_refusal setup lines) no_refusal f) (sym (refused-values f))
 
+  -- 40 numbers that are the values of their orders, where the row is not refused
+  pub group_values-filled :
+      (values : List ℕ) → group_row_refusal setup lines ≡ no_refusal → length values ≡ order_count →
+      ((i : ℕ) → i < order_count → get_or values i 0 ≡ group_value kind setup (i + 1) lines) →
+      values ≡ group_values kind setup lines
+  unfolding group_values
+  group_values-filled values e orders each =
+      sym (tabulate-whole 0 values order_count orders)
+      ∙ tabulate-eq order_count _ _
+      (λ i inside. each i inside ∙ sym (accepted-value kind setup (i + 1) lines (group_refusal-of-place setup i lines inside ∙ e)))
+
+-- what the code of a value rests on
+pub ruleset value_steps = (group-sum-lt, mod-eq_of_lt)
+
+-- what the code of a row rests on
+pub ruleset row_steps = (order-of-place, group_values-filled)
+
 -- the hypotheses can be met: the last order, at lines as large as any that is taken
 largest-lines-accepted : group_refusal (setup_of 12 edition2) order_count (tabulate line_count (λ k. largest_line)) ≡ no_refusal
-unfolding group_refusal is_system is_edition is_order any_of tabulate
+unfolding group_refusal is_system is_edition is_order tabulate
 largest-lines-accepted = refl
 
 -- ---- the row of a window
 
 -- it is never refused for its lines
-pub window_row-accepted : (setup : Setup) (window : List ℤ) → is_setup setup ≡ true → any_of out_of_range window ≡ false
+pub window_row-accepted : (setup : Setup) (window : List ℤ) → is_setup setup ≡ true → list_any out_of_range window ≡ false
     → group_row_refusal setup (lines_of window) ≡ no_refusal
 unfolding group_row_refusal
 window_row-accepted setup window known in-range =

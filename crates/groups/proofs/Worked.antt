@@ -5,13 +5,12 @@ use mathlib.Core.Path.{◌≡◌, refl}
 use Prim.Native.Nat.{ℕ, ◌+◌, ◌^◌}
 use lib.ListN.{set, replicate}
 use Rattle.algebra.specs.Largest.{largest}
-use Rattle.algebra.specs.Lists.{tabulate, any_of}
+use Rattle.algebra.specs.Lists.{tabulate}
 use Rattle.algebra.specs.Weighted.{sum_over}
 use Rattle.square_root.specs.Root.{root_of}
-use Rattle.refusals.specs.declared.Answer.{Answer}
-use Rattle.rows.specs.declared.RowAnswer.{RowAnswer}
+use Rattle.refusals.specs.Answers.{Answer}
 use Rattle.rows.specs.Orders.{is_order}
-use Rattle.rows.specs.Rows.{refused_row}
+use Rattle.rows.specs.Rows.{refused_row, RowAnswer}
 use Rattle.rows.specs.Systems.{is_system}
 use Rattle.rows.specs.Editions.{is_edition}
 use Rattle.rows.specs.Setups.{setup_of}
@@ -93,7 +92,7 @@ lines_before before last = replicate before 50 ++ (last ∷ [])
 cases-worked :
     map (λ c. group_answer Component c.setup c.order (lines_before c.before c.last)) cases ≡
     map (λ c. c.answered) cases
-unfolding group_answer group_refusal is_system is_edition is_order any_of group_value value_over span_of grouped_as weights_in tabulate weighted_sum sum_over root_of largest
+unfolding group_answer group_refusal is_system is_edition is_order group_value value_over span_of grouped_as weights_in tabulate weighted_sum sum_over root_of largest
 cases-worked = refl
 
 -- ---- the answers for a row
@@ -154,5 +153,5 @@ row_cases =
     []
 
 row_cases-worked : map (λ c. group_row_answer c.kind c.setup c.lines) row_cases ≡ map (λ c. c.answered) row_cases
-unfolding group_row_answer group_row_refusal refused_row group_values group_answer group_refusal is_system is_edition is_order any_of group_value value_over span_of grouped_as weights_in tabulate weighted_sum sum_over root_of largest
+unfolding group_row_answer group_row_refusal refused_row group_values group_answer group_refusal is_system is_edition is_order group_value value_over span_of grouped_as weights_in tabulate weighted_sum sum_over root_of largest
 row_cases-worked = refl

@@ -2,14 +2,12 @@
 use Rattle.std.specs.Prelude.{Bool, List, ◌∷◌, ◌++◌, ℕ, ◌+◌, ℤ}
 use Rattle.algebra.specs.Lists.{tabulate}
 use Rattle.square_root.specs.Root.{root_of}
-use Rattle.refusals.specs.Answers.{first_fault, unless_refused, answer}
-use Rattle.refusals.specs.declared.Answer.{Answer}
+use Rattle.refusals.specs.Answers.{first_fault, unless_refused, Answer, answer}
 use Rattle.rows.specs.Orders.{order_count, order_check}
 use Rattle.rows.specs.Setups.{setup_checks}
 use Rattle.rows.specs.declared.Setup.{Setup}
-use Rattle.rows.specs.Rows.{refused_row}
+use Rattle.rows.specs.Rows.{refused_row, RowAnswer}
 use Rattle.rows.specs.declared.Row.{Row}
-use Rattle.rows.specs.declared.RowAnswer.{RowAnswer}
 use Rattle.spectral_lines.specs.Line.{line_count, lines_of}
 use Rattle.kinds.specs.declared.Kind.{Kind}
 use Rattle.spans.specs.Checks.{line_checks}

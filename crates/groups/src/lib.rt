@@ -2,5 +2,7 @@
 #![tactic(auto)]
 
 mod group;
+mod row;
 
-pub use group::{group_row, group_value};
+pub use group::group_value;
+pub use row::group_row;

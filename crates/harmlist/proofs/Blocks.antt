@@ -1,13 +1,13 @@
 -- The blocks that were read so far, one block more, how many more may come, and what the whole gives, also with more after it.
-use mathlib.Core.Bool.{Bool, true, false, cond, true≢false}
+use mathlib.Core.Bool.{true, false, cond, true≢false}
 use mathlib.Core.List.{List, [], ◌∷◌, ◌++◌, append-nil, append_assoc}
 use mathlib.Core.Logic.{inl, inr, ⊎_elim}
 use mathlib.Core.Path.{◌≡◌, refl, sym, ap, ◌∙◌}
 use Prim.Native.Nat.{ℕ, zero, suc, ◌+◌, ◌-◌, ◌*◌, ◌<◌, ◌≤◌}
 use native.Mathlib.Decide.{ℕ_discrete, dec_le}
 use native.Mathlib.Omega.{arith}
-use borrow.Author.Tests.{eq-eqb, ne_eqb, ltb-true, ltb-false}
-use lib.Dec.{eqb, ltb}
+use borrow.Author.Tests.{eq-eqb, ne_eqb, lt-ltb, le-ltb, ltb-true, ltb-false}
+use lib.Dec.{eqb}
 use lib.ListN.{length, take, drop, take-append-drop, length-drop}
 use lib.Seq.{length-take-le}
 use Rattle.refusals.specs.Numbers.{no_refusal}
@@ -22,7 +22,8 @@ use Rattle.algebra.specs.Lists.{joined}
 use Rattle.recordings.proofs.WindowAdded.{block_of-added}
 use Rattle.harmlist_output.proofs.Follows.{follows-definition, reading_after-append, stops-at-refusal}
 use Rattle.harmlist.specs.declared.Input.{Input}
-use Rattle.harmlist.specs.Input.{IsPrefixLen, BytesRead, LineRead, BlockRead, Cut, AllWhole, BlocksRead, TextRead}
+use Rattle.harmlist.specs.declared.Input.TheVariants.{Ended, Whole}
+use Rattle.harmlist.specs.Input.{reading_of, has_ended, IsPrefixLen, BytesRead, LineRead, AllWhole, BlocksRead, TextRead}
 
 -- ---- the bytes of one read
 
@@ -31,27 +32,29 @@ pub prefix_len-of_le : (n : ℕ) (buffer : List ℕ) → n ≤ length buffer →
 prefix_len-of_le n buffer within = (within, sym (length-take-le n buffer within))
 
 -- the front of a buffer is what was read
-pub bytes_read :
-    (most : ℕ) (read_as : List ℕ → Reading) (buffer : List ℕ) (count : ℕ) (input : Input) →
-    length buffer ≡ most →
-    IsPrefixLen count buffer →
-    input.short ≡ ltb count most →
-    input.reading ≡ read_as (take count buffer) →
-    BytesRead most read_as input
-bytes_read most read_as buffer count input room counts short reading =
-    record {
-      bytes = take count buffer;
-      fits = omega (arith, counts);
-      short-is = short ∙ ap (λ n. ltb n most) counts.1;
-      reading-is = reading;
-    }
+module _ (most : ℕ) (read_as : List ℕ → Reading) (buffer : List ℕ) (count : ℕ) (room : length buffer ≡ most) (counts : IsPrefixLen count buffer) where
+  pub ended_read : count < most → BytesRead most read_as (Ended (read_as (take count buffer)))
+  ended_read few = record {
+    bytes = take count buffer;
+    fits = omega (arith, counts);
+    ended-is = sym (lt-ltb _ _ (omega (arith, counts)));
+    reading-is = refl;
+  }
+
+  pub whole_read : most ≤ count → BytesRead most read_as (Whole (read_as (take count buffer)))
+  whole_read all = record {
+    bytes = take count buffer;
+    fits = omega (arith, counts);
+    ended-is = sym (le-ltb _ _ (omega (arith, counts)));
+    reading-is = refl;
+  }
 
 -- all the bytes that were asked for
 bytes_whole :
     (most : ℕ) (read_as : List ℕ → Reading) (input : Input) (read : BytesRead most read_as input) →
-    input.short ≡ false →
+    has_ended input ≡ false →
     length read.bytes ≡ most
-bytes_whole most read_as input read e = omega (arith, read.fits, ltb-false (length read.bytes) most (sym read.short-is ∙ e))
+bytes_whole most read_as input read e = omega (arith, read.fits, ltb-false (length read.bytes) most (sym read.ended-is ∙ e))
 
 -- ---- lists of blocks
 
@@ -135,7 +138,7 @@ blocks_left reading =
 
 module _ (first reading : Reading) (so_far : SoFar first reading) where
   -- at a refusal
-  pub stops : (reading.refusal ≡ no_refusal → ⊥) → BlocksRead first (record { reading = reading; short = false; failed = false })
+  pub stops : (reading.refusal ≡ no_refusal → ⊥) → BlocksRead first (Whole reading)
   stops f = record {
     blocks = so_far.blocks;
     cut = whole-but-last so_far.blocks so_far.whole;
@@ -143,93 +146,79 @@ module _ (first reading : Reading) (so_far : SoFar first reading) where
     ends = inr (so_far.whole, f);
   }
 
-  module _ (input : Input) (read : BlockRead reading input) where
-    reading-next : input.reading ≡ reading_after first (so_far.blocks ++ (read.bytes ∷ []))
+  module _ (buffer : List ℕ) (count : ℕ) (room : length buffer ≡ window_bytes) (counts : IsPrefixLen count buffer) where
+    abbrev bytes : List ℕ
+    bytes = take count buffer
+
+    reading-next : block_of reading bytes ≡ reading_after first (so_far.blocks ++ (bytes ∷ []))
     reading-next =
-        read.reading-is
-        ∙ ap (λ (r : Reading). block_of r read.bytes) so_far.reading-is
-        ∙ sym (reading-and-one first so_far.blocks read.bytes)
+        ap (λ (r : Reading). block_of r bytes) so_far.reading-is ∙ sym (reading-and-one first so_far.blocks bytes)
 
     -- with the last block
-    pub ends_with : Cut input → BlocksRead first input
-    ends_with cut = record {
-      blocks = so_far.blocks ++ (read.bytes ∷ []);
-      cut = whole-and-last so_far.blocks read.bytes so_far.whole read.fits;
+    pub ends_with : BlocksRead first (Ended (block_of reading bytes))
+    ends_with = record {
+      blocks = so_far.blocks ++ (bytes ∷ []);
+      cut = whole-and-last so_far.blocks bytes so_far.whole (omega (arith, counts));
       reading-is = reading-next;
-      ends = inl cut;
+      ends = inl refl;
     }
 
-    module _ (goes_on : input.short ≡ false) where
-      is-whole : length read.bytes ≡ window_bytes
-      is-whole = bytes_whole _ _ _ read goes_on
+    module _ (goes_on : window_bytes ≤ count) where
+      is-whole : length bytes ≡ window_bytes
+      is-whole = omega (arith, counts)
 
-      pub next : SoFar first input.reading
+      pub next : SoFar first (block_of reading bytes)
       next = record {
-        blocks = so_far.blocks ++ (read.bytes ∷ []);
-        whole = whole-and-one so_far.blocks read.bytes so_far.whole is-whole;
+        blocks = so_far.blocks ++ (bytes ∷ []);
+        whole = whole-and-one so_far.blocks bytes so_far.whole is-whole;
         reading-is = reading-next;
       }
 
       -- each block leaves fewer to come
-      pub fewer-left : reading.refusal ≡ no_refusal → blocks_left input.reading < blocks_left reading
-      fewer-left e = by-refusal (ℕ_discrete input.reading.refusal no_refusal)
+      pub fewer-left : reading.refusal ≡ no_refusal → blocks_left (block_of reading bytes) < blocks_left reading
+      fewer-left e = by-refusal (ℕ_discrete (block_of reading bytes).refusal no_refusal)
         where
-          by-refusal : Dec (input.reading.refusal ≡ no_refusal) → blocks_left input.reading < blocks_left reading
+          by-refusal : Dec ((block_of reading bytes).refusal ≡ no_refusal) → blocks_left (block_of reading bytes) < blocks_left reading
           by-refusal (yes z) =
-              let after : (block_of reading read.bytes).refusal ≡ no_refusal =
-              sym (ap (λ (r : Reading). r.refusal) read.reading-is) ∙ z in
-              let added = block_of-added reading read.bytes (λ none. omega (arith, is-whole)) after in
-              let windows = ap (λ (r : Reading). r.observation.windows) read.reading-is in
-              rw (eq-eqb reading.refusal no_refusal e, eq-eqb input.reading.refusal no_refusal z)
-              (omega (arith, added, windows))
-          by-refusal (no f) = rw (eq-eqb reading.refusal no_refusal e, ne_eqb input.reading.refusal no_refusal f) (omega arith)
+              let added = block_of-added reading bytes (λ none. omega (arith, is-whole)) z in
+              rw (eq-eqb reading.refusal no_refusal e, eq-eqb (block_of reading bytes).refusal no_refusal z) (omega (arith, added))
+          by-refusal (no f) = rw (eq-eqb reading.refusal no_refusal e, ne_eqb (block_of reading bytes).refusal no_refusal f) (omega arith)
 
 -- ---- the whole text
-
-cut-or-not : (input : Input) → Cut input → input.short ≡ false → input.failed ≡ false → ⊥
-cut-or-not input cut whole worked =
-    ⊎_elim
-    (λ (e : input.short ≡ true). true≢false (sym e ∙ whole))
-    (λ (e : input.failed ≡ true). true≢false (sym e ∙ worked))
-    cut
 
 module _ (line : Input) (read : LineRead line) where
   -- the blocks after the line give what harmlist writes
   output-after :
       (input : Input) (blocks : List (List ℕ)) → CutInBlocks read.bytes blocks →
-      input.reading ≡ reading_after line.reading blocks → output_of input.reading ≡ harmlist_output (read.bytes ++ joined blocks)
+      reading_of input ≡ reading_after (reading_of line) blocks → output_of (reading_of input) ≡ harmlist_output (read.bytes ++ joined blocks)
   output-after input blocks cut after =
       ap output_of (after ∙ ap (λ (r : Reading). reading_after r blocks) read.reading-is)
       ∙ follows-definition read.bytes blocks cut
 
-  line-short : line.short ≡ true → length read.bytes < text_line_bytes
-  line-short e = ltb-true (length read.bytes) text_line_bytes (sym read.short-is ∙ e)
+  line-short : has_ended line ≡ true → length read.bytes < text_line_bytes
+  line-short e = ltb-true (length read.bytes) text_line_bytes (sym read.ended-is ∙ e)
 
-  -- no block is read after a line that is short, or whose read failed
-  pub line-ends : Cut line → TextRead line
+  -- no block is read after a line that is short
+  pub line_ends : has_ended line ≡ true → TextRead line
   unfolding reading_after WholeButLast
-  line-ends ends = record {
+  line_ends ends = record {
     text = read.bytes ++ joined [];
-    output-is = output-after line [] (cut line.short refl) refl;
-    any-more = λ whole worked. absurd (cut-or-not line ends whole worked);
+    output-is = output-after line [] (inr (line-short ends, refl)) refl;
+    any-more = λ whole. absurd (true≢false (sym ends ∙ whole));
   }
-    where
-      cut : (short : Bool) → line.short ≡ short → CutInBlocks read.bytes []
-      cut true e = inr (line-short e, refl)
-      cut false e = inl (bytes_whole _ _ _ read e, tt)
 
-  module _ (input : Input) (whole-line : line.short ≡ false) (blocks-read : BlocksRead line.reading input) where
+  module _ (input : Input) (whole-line : has_ended line ≡ false) (blocks-read : BlocksRead (reading_of line) input) where
     long : length read.bytes ≡ text_line_bytes
     long = bytes_whole _ _ _ read whole-line
 
     -- what comes after a reading that is refused does not matter
     output-any-more :
-        AllWhole blocks-read.blocks → (input.reading.refusal ≡ no_refusal → ⊥) → (more : List ℕ) →
-        output_of input.reading ≡ harmlist_output (read.bytes ++ joined blocks-read.blocks ++ more)
+        AllWhole blocks-read.blocks → ((reading_of input).refusal ≡ no_refusal → ⊥) → (more : List ℕ) →
+        output_of (reading_of input) ≡ harmlist_output (read.bytes ++ joined blocks-read.blocks ++ more)
     output-any-more whole f more =
         let blocks = blocks-read.blocks in
         let after = in_blocks (length more) more (omega arith) in
-        let reading-is : input.reading ≡ reading_after (begin_of read.bytes) blocks =
+        let reading-is : reading_of input ≡ reading_after (begin_of read.bytes) blocks =
         blocks-read.reading-is ∙ ap (λ (r : Reading). reading_after r blocks) read.reading-is in
         let refused : (reading_after (begin_of read.bytes) blocks).refusal ≡ no_refusal → ⊥ =
         λ e. f (ap (λ (r : Reading). r.refusal) reading-is ∙ e) in
@@ -240,19 +229,19 @@ module _ (line : Input) (read : LineRead line) where
         (joined-append blocks after.blocks ∙ ap (λ (rest : List ℕ). joined blocks ++ rest) after.joined-are)
         ∙ ap harmlist_output (sym (append_assoc read.bytes (joined blocks) more))
 
-    pub text-ends : TextRead input
-    text-ends = record {
+    pub text_ends : TextRead input
+    text_ends = record {
       text = read.bytes ++ joined blocks-read.blocks;
       output-is = output-after input blocks-read.blocks (inl (long, blocks-read.cut)) blocks-read.reading-is;
-      any-more = λ whole worked.
+      any-more = λ whole.
           ⊎_elim
-          (λ (cut : Cut input). absurd (cut-or-not input cut whole worked))
-          (λ (refused : AllWhole blocks-read.blocks × (input.reading.refusal ≡ no_refusal → ⊥)). output-any-more refused.0 refused.1)
+          (λ (ends : has_ended input ≡ true). absurd (true≢false (sym ends ∙ whole)))
+          (λ (refused : AllWhole blocks-read.blocks × ((reading_of input).refusal ≡ no_refusal → ⊥)). output-any-more refused.0 refused.1)
           blocks-read.ends;
     }
 
--- so a text at whose end neither the input ended nor a read failed is one that nothing after it changes
+-- so a text at whose end the input has not ended is one that nothing after it changes
 nothing-missed :
-    (input : Input) (read : TextRead input) → input.short ≡ false → input.failed ≡ false →
+    (input : Input) (read : TextRead input) → has_ended input ≡ false →
     (more : List ℕ) → harmlist_output (read.text ++ more) ≡ harmlist_output read.text
-nothing-missed input read whole worked more = sym (read.any-more whole worked more) ∙ read.output-is
+nothing-missed input read whole more = sym (read.any-more whole more) ∙ read.output-is

@@ -1,19 +1,15 @@
-// harmlist reads a recording from standard input and writes its listing, or the line for a refusal,
-// to standard output. It takes no arguments. It only moves bytes: the first line to `begin`, one
-// window's lines at a time to `take_block`, and what `finish` answers to the output. It holds one
-// window's lines at a time. A read or a write that fails ends in a line on standard error, and no
-// listing is written after a read that failed.
+// harmlist reads a recording from standard input and writes its listing, or the line for a refusal, to standard output. It takes no arguments. It only moves
+// bytes: the first line to `begin`, one window's lines at a time to `take_block`, and what `finish` answers to the output. It holds one window's lines at a
+// time. A read or a write that fails ends in a line on standard error, and no listing is written after a read that failed.
 //
-// Proved: where no read is taken for failed, it hands `finish` a reading that gives what document 01 says
-// of some bytes, those that came; and it stops reading only where it takes the input for ended (`short`),
-// or where document 01 says the same of these bytes with any more after them (specs/Input.antt). Assumed of
-// `read` is only how many bytes it answers. Tested: that the bytes are the input's, that it is taken for
-// ended at its end alone, also with the most windows, that a read which fails is taken for failed, and that
-// the output is written (tests/run, tests/edges).
+// Proved: where no read is taken for failed, it hands `finish` a reading that gives what document 01 says of some bytes, those that came; and it stops reading
+// only where it takes the input for ended (`Ended`), or where document 01 says the same of these bytes with any more after them (specs/Input.antt). Assumed of
+// `read` is only how many bytes it answers. Tested: that the bytes are the input's, that it is taken for ended at its end alone, also with the most windows,
+// that a read which fails is taken for failed, and that the output is written (tests/run, tests/edges).
 #![tactic(auto)]
 
-ghost use Rattle.std.specs.Prelude.{false, ◌≡◌, ◌≤◌, length};
-ghost use Rattle.harmlist.specs.Input.{IsPrefixLen, LineRead, BlockRead, BlocksRead, TextRead};
+ghost use Rattle.std.specs.Prelude.{◌≡◌, ◌≤◌, length, IfOk};
+ghost use Rattle.harmlist.specs.Input.{reading_of, IsPrefixLen, LineRead, BlocksRead, TextRead};
 
 use harmlist_output::finish;
 use listing::LISTING_ROOM;
@@ -23,149 +19,99 @@ use std::env::{Env, FillError};
 use std::io;
 use std::io::{ErrorKind, Read, Stdin, Write};
 
-// How often a read is tried in a row without a byte: some seconds. Yielding the processor between
-// two tries would take as long as the others run, and so hours on a machine with much to do.
+// How often a read is tried in a row without a byte: some seconds. Yielding the processor between two tries would take as long as the others run, and so
+// hours on a machine with much to do.
 const MOST_TRIES: u32 = 20000000;
 
-// What was read: so many bytes at the start of a buffer, and whether a read failed.
+// An input, by its reading.
 #[derive(Drop)]
-struct Bytes {
-    count: usize,
-    failed: bool,
+enum Input {
+    // It ended: the last bytes were fewer than were asked for.
+    Ended(Reading),
+    // All bytes that were asked for came, and no more are needed.
+    Whole(Reading),
 }
 
-// The input so far: its reading, whether the last bytes were fewer than were asked for, and whether
-// a read failed.
-#[derive(Drop)]
-struct Input {
-    reading: Reading,
-    short: bool,
-    failed: bool,
+impl Input {
+    fn into_reading(self) -> Reading
+        ensures { result ≡ reading_of self }
+    {
+        match self {
+            Input::Ended(reading) | Input::Whole(reading) => reading,
+        }
+    }
 }
 
-// Standard input, and why its last read that failed did.
-#[derive(Drop)]
-struct Source {
-    stdin: Stdin,
-    error: Option<io::Error>,
-}
-
-// Whether a read that failed may be tried again: a signal came, or a pipe that does not block has
-// nothing yet.
+// Whether a read that failed may be tried again: a signal came, or a pipe that does not block has nothing yet.
 fn is_passing(kind: ErrorKind) -> bool {
-    (kind == ErrorKind::Interrupted) | (kind == ErrorKind::WouldBlock)
+    matches!(kind, ErrorKind::Interrupted | ErrorKind::WouldBlock)
 }
 
 // Reads what is there to the start of the buffer: no byte at the end of the input.
-fn read_some(source: &mut Source, buffer: &mut [u8]) -> Bytes
-    ensures { result.count ≤ length buffer.old }
+fn read_some(stdin: &mut Stdin, buffer: &mut [u8]) -> io::Result<usize>
+    ensures { IfOk result (λ count. count ≤ length buffer.old) }
 {
-    let mut tries = 0;
-    while tries < MOST_TRIES {
-        match source.stdin.read(buffer) {
-            Ok(count) => {
-                return Bytes {
-                    count,
-                    failed: false,
-                };
-            }
-            Err(error) => {
-                source.error = Some(error);
-                if !is_passing(error.kind()) {
-                    return Bytes {
-                        count: 0,
-                        failed: true,
-                    };
-                }
-            }
+    for _ in 1..MOST_TRIES {
+        match stdin.read(buffer) {
+            Err(error) if is_passing(error.kind()) => {}
+            outcome => return outcome,
         }
-        tries += 1;
     }
-    Bytes {
-        count: 0,
-        failed: true,
-    }
+    stdin.read(buffer)
 }
 
-// Reads until the buffer is full, the input ends or a read fails.
-fn read_full(source: &mut Source, buffer: &mut [u8]) -> Bytes
-    ensures { IsPrefixLen result.count buffer.new }
+// Reads until the buffer is full or the input ends.
+fn read_full(stdin: &mut Stdin, buffer: &mut [u8]) -> io::Result<usize>
+    ensures { IfOk result (λ count. IsPrefixLen count buffer.new) }
 {
     let mut count = 0;
     while count < buffer.len() {
-        let more = read_some(source, &mut buffer[count..]);
-        if more.count == 0 {
-            return Bytes {
-                count,
-                failed: more.failed,
-            };
+        match read_some(stdin, &mut buffer[count..])? {
+            0 => return Ok(count),
+            more => count += more,
         }
-        count += more.count;
     }
-    Bytes {
-        count,
-        failed: false,
-    }
+    Ok(count)
 }
 
 // Reads the first line.
-fn read_line(source: &mut Source) -> Input
-    ensures { LineRead result }
+fn read_line(stdin: &mut Stdin) -> io::Result<Input>
+    ensures { IfOk result LineRead }
 {
-    let mut line = [0u8; LINE_BYTES];
-    let bytes = read_full(source, &mut line);
-    let count = bytes.count;
+    let mut line = [0; LINE_BYTES];
+    let count = read_full(stdin, &mut line)?;
     let reading = begin(&line[..count]);
-    Input {
-        reading,
-        short: count < LINE_BYTES,
-        failed: bytes.failed,
-    }
+    Ok(if count < LINE_BYTES {
+        Input::Ended(reading)
+    } else {
+        Input::Whole(reading)
+    })
 }
 
-// Reads one window's lines.
-fn read_block(source: &mut Source, before: Reading) -> Input
-    ensures { BlockRead before result }
+// Reads a window's lines at a time, until the first refusal or the end.
+fn read_blocks(stdin: &mut Stdin, first: Reading) -> io::Result<Input>
+    ensures { IfOk result (λ input. BlocksRead first input) }
 {
-    let mut block = [0u8; WINDOW_BYTES];
-    let bytes = read_full(source, &mut block);
-    let count = bytes.count;
-    let reading = take_block(before, &block[..count]);
-    Input {
-        reading,
-        short: count < WINDOW_BYTES,
-        failed: bytes.failed,
-    }
-}
-
-// Reads blocks until the first refusal, the first that is short, or a read that fails.
-fn read_blocks(source: &mut Source, first: Reading) -> Input
-    ensures { BlocksRead first result }
-{
+    let mut block = [0; WINDOW_BYTES];
     let mut reading = first;
     while reading.refusal == NO_REFUSAL {
-        let input = read_block(source, reading);
-        if input.short | input.failed {
-            return input;
+        let count = read_full(stdin, &mut block)?;
+        reading = take_block(reading, &block[..count]);
+        if count < WINDOW_BYTES {
+            return Ok(Input::Ended(reading));
         }
-        reading = input.reading;
     }
-    Input {
-        reading,
-        short: false,
-        failed: false,
-    }
+    Ok(Input::Whole(reading))
 }
 
 // Reads the input as far as it matters.
-fn read_input(source: &mut Source) -> Input
-    ensures { TextRead result }
+fn read_input(stdin: &mut Stdin) -> io::Result<Input>
+    ensures { IfOk result TextRead }
 {
-    let line = read_line(source);
-    if line.short | line.failed {
-        return line;
+    match read_line(stdin)? {
+        Input::Ended(reading) => Ok(Input::Ended(reading)),
+        Input::Whole(first) => read_blocks(stdin, first),
     }
-    read_blocks(source, line.reading)
 }
 
 // Writes a line to standard error: which stream failed, a colon, and the system's words for why.
@@ -177,14 +123,12 @@ fn report(rt: &HostRuntime, stream: &str, error: io::Error) -> io::Result<()> {
     }
 }
 
-// Writes the listing of an input, or the line for its refusal. No read of it may have failed.
+// Writes the listing of an input, or the line for its refusal.
 fn write_output(rt: &HostRuntime, input: Input) -> io::Result<()>
-    requires text_read { TextRead input }
-    requires failed_value { input.failed ≡ false }
+    requires { TextRead input }
 {
-    let mut output = [0u8; LISTING_ROOM];
-    let answer = finish(input.reading, &mut output);
-    let count = answer.value as usize;
+    let mut output = [0; LISTING_ROOM];
+    let count = finish(input.into_reading(), &mut output).unwrap();
     match rt.stdout().write_all(&output[..count]) {
         Ok(()) => Ok(()),
         Err(error) => report(rt, "standard output", error),
@@ -193,11 +137,8 @@ fn write_output(rt: &HostRuntime, input: Input) -> io::Result<()>
 
 // Whether an argument follows the program's name.
 fn has_argument(rt: &HostRuntime) -> bool {
-    let mut argument = [0u8; 1];
-    match rt.arg(1, &mut argument) {
-        Err(FillError::NotPresent) => false,
-        _ => true,
-    }
+    let mut argument = [0; 1];
+    !matches!(rt.arg(1, &mut argument), Err(FillError::NotPresent))
 }
 
 fn main(rt: HostRuntime) -> io::Result<()> {
@@ -206,16 +147,8 @@ fn main(rt: HostRuntime) -> io::Result<()> {
             "harmlist takes no arguments; it reads standard input\nusage: harmlist < RECORDING"
         );
     }
-    let mut source = Source {
-        stdin: rt.stdin(),
-        error: None,
-    };
-    let input = read_input(&mut source);
-    if input.failed {
-        return match source.error {
-            Some(error) => report(&rt, "standard input", error),
-            None => Ok(()),
-        };
+    match read_input(&mut rt.stdin()) {
+        Ok(input) => write_output(&rt, input),
+        Err(error) => report(&rt, "standard input", error),
     }
-    write_output(&rt, input)
 }

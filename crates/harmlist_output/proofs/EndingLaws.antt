@@ -1,20 +1,21 @@
 -- The end of a reading: its refusal, what is written, and what the buffer holds then, a law for each way.
 use mathlib.Core.Bool.{Bool, true, cond, not}
 use mathlib.Core.List.{List, [], ◌∷◌, ◌++◌}
-use mathlib.Core.Path.{◌≡◌, refl, sym, ap, ◌∙◌}
+use mathlib.Core.Path.{◌≡◌, refl, ap, ◌∙◌}
 use Prim.Native.Nat.{ℕ, ◌<◌, ◌≤◌}
 use native.Mathlib.Decide.{dec_le, dec_lt}
 use native.Mathlib.Omega.{arith}
 use borrow.Author.Tests.{ne_eqb, lt-ltb, le-ltb}
 use lib.Dec.{eqb, ltb}
 use lib.ListN.{length, drop, length-append, length-drop}
+use Rattle.std.specs.Prelude.{Result, Ok, Err, IsOk}
 use Rattle.refusals.specs.Numbers.{no_refusal, unsound_record, no_window, wrong_buffer_length, largest_refusal}
-use Rattle.refusals.specs.Answers.{first_fault, answer}
-use Rattle.refusals.specs.declared.Answer.{Answer}
+use Rattle.refusals.specs.Answers.{Answer, number_of, first_fault, answer, answer_of}
+use Rattle.refusals.specs.declared.Refusal.{Refusal}
 use Rattle.refusals.proofs.Answers.{no-fault}
-use Rattle.listing.specs.Listing.{listing_text, listing_room, listing_refusal, listing_exit}
-use Rattle.listing.specs.RefusalLine.{refusal_line_length, refusal_line}
-use Rattle.listing.proofs.RefusalLine.{refusal_line-length}
+use Rattle.refusals.proofs.Results.{number_is_positive}
+use Rattle.listing.specs.Listing.{listing_text, listing_room, listing_refusal}
+use Rattle.listing.specs.RefusalLine.{refusal_line}
 use Rattle.records.specs.Soundness.{is_sound, sound_first}
 use Rattle.records.proofs.SoundFirst.{sound_first-none}
 use Rattle.recordings.specs.declared.Reading.{Reading}
@@ -47,9 +48,9 @@ module _ (reading : Reading) where
   finish_refusal-accepted e s f = rw (e, s, ne_eqb reading.observation.windows 0 f)
 
   -- it is one of document 01's numbers
-  pub finish_refusal-le : finish_refusal reading ≤ largest_refusal
+  pub finish_refusal_le : finish_refusal reading ≤ largest_refusal
   unfolding finish_refusal
-  finish_refusal-le = by_size (dec_le reading.refusal largest_refusal)
+  finish_refusal_le = by_size (dec_le reading.refusal largest_refusal)
     where
       by_size : Dec (reading.refusal ≤ largest_refusal) → finish_refusal reading ≤ largest_refusal
       by_size (yes h) =
@@ -63,9 +64,9 @@ module _ (reading : Reading) where
       by_size (no f) = rw (finish_refusal-unknown (omega arith)) (omega arith)
 
   -- a listing is written of a sound record only
-  pub finish_refusal-sound : finish_refusal reading ≡ no_refusal → is_sound reading.observation ≡ true
+  pub finish_refusal_sound : finish_refusal reading ≡ no_refusal → is_sound reading.observation ≡ true
   unfolding finish_refusal
-  finish_refusal-sound e =
+  finish_refusal_sound e =
       let none : List (Bool × ℕ) = (eqb reading.observation.windows 0, no_window) ∷ [] in
       let of-record = first_fault (sound_first reading.observation none) in
       let ended = cond (not (eqb reading.refusal no_refusal)) reading.refusal of-record in
@@ -82,50 +83,31 @@ module _ (reading : Reading) where
   unfolding output_of
   output_of-accepted e = rw e
 
--- ---- the answer and the buffer
-
-module _ (reading : Reading) (buffer : List ℕ) where
-  -- what the contract says of an answer and of the buffer at exit
-  abbrev Written : ℕ → ℕ → List ℕ → Type 0
-  Written refusal count after =
-      (answer refusal count ≡ answer (listing_refusal buffer) (length (output_of reading)))
-      × (after ≡ output_exit reading buffer)
-
-  pub written-not : length buffer < listing_room → Written wrong_buffer_length 0 buffer
-  unfolding listing_refusal output_exit
-  written-not h = let e = lt-ltb (length buffer) listing_room h in (rw e, rw e)
-
-  pub written-refusal : (last : List ℕ) → listing_room ≤ length buffer → (finish_refusal reading ≡ no_refusal → ⊥)
-      → last ≡ refusal_line (finish_refusal reading)
-      → Written no_refusal refusal_line_length (last ++ drop refusal_line_length buffer)
-  unfolding listing_refusal output_exit
-  written-refusal last h f same =
-      let e = le-ltb (length buffer) listing_room h in
-      let text = output_of-refused reading (finish_refusal reading) refl f in
-      let long = refusal_line-length (finish_refusal reading) (omega (arith, finish_refusal-le reading)) in
-      (rw (e, text, long), rw (e, text, long, same))
-
-  pub answer-listing : finish_refusal reading ≡ no_refusal
-      → answer (listing_refusal buffer) (length (listing_text reading.group reading.subgroup reading.observation.smoothed))
-      ≡ answer (listing_refusal buffer) (length (output_of reading))
-  answer-listing e = ap (λ (text : List ℕ). answer (listing_refusal buffer) (length text)) (sym (output_of-accepted reading e))
-
-  pub written-listing : finish_refusal reading ≡ no_refusal
-      → listing_exit buffer reading.group reading.subgroup reading.observation.smoothed ≡ output_exit reading buffer
-  unfolding listing_exit output_exit
-  written-listing e = rw (output_of-accepted reading e)
+-- nothing refuses what is written to a buffer that is long enough
+pub written_ok :
+    (buffer : List ℕ) (count : ℕ) (result : Result ℕ Refusal) → listing_room ≤ length buffer →
+    answer_of result ≡ answer (listing_refusal buffer) count → IsOk result
+unfolding listing_refusal
+written_ok buffer count (Ok bytes) room e = refl
+written_ok buffer count (Err refusal) room e =
+    let accepted : number_of refusal ≡ no_refusal = ap (λ (a : Answer). a.refusal) (rw (le-ltb (length buffer) listing_room room) at e) in
+    absurd (omega (arith, number_is_positive refusal))
 
 -- the bytes that are written lie in the buffer
-pub written-count-le : (reading : Reading) (buffer after : List ℕ) (answered : Answer)
-    → answered ≡ answer (listing_refusal buffer) (length (output_of reading)) → after ≡ output_exit reading buffer
-    → length after ≡ length buffer → answered.value ≤ length buffer
+pub written_count_le :
+    (reading : Reading) (buffer after : List ℕ) (count : ℕ) → answer_of (Ok count) ≡ answer (listing_refusal buffer) (length (output_of reading)) →
+    after ≡ output_exit reading buffer → length after ≡ length buffer → count ≤ length buffer
 unfolding listing_refusal output_exit
-written-count-le reading buffer after answered e holds kept = rw e (by-room (dec_lt (length buffer) listing_room))
+written_count_le reading buffer after count e holds kept = by-room (dec_lt (length buffer) listing_room)
   where
-    by-room : Dec (length buffer < listing_room) → (answer (listing_refusal buffer) (length (output_of reading))).value ≤ length buffer
-    by-room (yes h) = rw (lt-ltb (length buffer) listing_room h) (omega arith)
+    by-room : Dec (length buffer < listing_room) → count ≤ length buffer
+    by-room (yes h) =
+        let short = lt-ltb (length buffer) listing_room h in
+        let refused : no_refusal ≡ wrong_buffer_length = ap (λ (a : Answer). a.refusal) (rw short at e) in
+        absurd (omega arith)
     by-room (no f) =
         let room = le-ltb (length buffer) listing_room (omega arith) in
         let text = output_of reading in
+        let bytes : count ≡ length text = ap (λ (a : Answer). a.value) (rw room at e) in
         let front : after ≡ text ++ drop (length text) buffer = holds ∙ rw room in
-        rw room (omega (arith, simp (length-append, length-drop) at (ap length front), kept))
+        omega (arith, bytes, simp (length-append, length-drop) at (ap length front), kept)

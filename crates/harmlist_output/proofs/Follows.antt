@@ -13,7 +13,7 @@ use Rattle.columns.specs.Calls.{column_width}
 use Rattle.windows.specs.Window.{window_length}
 use Rattle.recordings.specs.declared.Reading.{Reading}
 use Rattle.recordings.specs.TextLines.{text_line_bytes, text_line_count}
-use Rattle.recordings.specs.InputRefusal.{is_none, text_line_refusal, first_of, refusal_before, end_refusal}
+use Rattle.recordings.specs.InputRefusal.{text_line_refusal, first_of, refusal_before, end_refusal}
 use Rattle.recordings.specs.Windows.{window_count}
 use Rattle.harmlist_output.specs.Output.{listing_for, harmlist_output}
 use Rattle.recordings.specs.Blocks.{window_bytes, begin_of, text_lines_refusal, block_lines, refused_with, block_of}
@@ -176,7 +176,6 @@ follows (block ∷ next ∷ blocks) p w reading h cut =
 
 -- an input that is shorter than a line
 text_line_refusal-short-first : (first : List ℕ) → length first < text_line_bytes → text_line_refusal first 0 ≡ not_a_column
-unfolding is_none
 text_line_refusal-short-first first h = text_line_refusal-first first ∙ rw (text_line_number-cut first 0 (omega arith))
 
 short-first : (first : List ℕ) → length first < text_line_bytes → output_of (begin_of first) ≡ harmlist_output first

@@ -3,7 +3,7 @@
 use mathlib.Core.Bool.{Bool, true, false, true≢false, ◌||◌}
 use mathlib.Core.List.{List, [], ◌∷◌, ◌++◌}
 use mathlib.Core.Logic.{⊎_elim}
-use mathlib.Core.Option.{some}
+use Rattle.std.specs.Prelude.{Some}
 use mathlib.Core.Path.{◌≡◌, refl, sym, ap, ◌∙◌}
 use Prim.Native.Nat.{ℕ, zero, suc, ◌+◌, ◌-◌, ◌*◌, ◌<◌, ◌≤◌}
 use native.Mathlib.Nat.{not-suc-le-zero}
@@ -13,8 +13,9 @@ use borrow.Author.Tests.{ne_eqb, le-leb}
 use lib.IntN.{ℤ, pos, negsuc, nat_abs}
 use lib.ListN.{length, get_or, take, drop, length-append, length-drop}
 use lib.Seq.{take_at, get_or_at, get_or-take, get_or-drop, length-take-le}
-use Rattle.algebra.specs.Lists.{tabulate, any_of}
-use Rattle.algebra.proofs.Lists.{any_of-none, tabulate-eq, tabulate-whole}
+use Rattle.algebra.specs.Lists.{tabulate}
+use Rattle.std.specs.List.{list_any}
+use Rattle.algebra.proofs.Lists.{list_any-none, tabulate-eq, tabulate-whole}
 use Rattle.refusals.specs.Numbers.{no_refusal}
 use Rattle.columns.specs.Text.{newline}
 use Rattle.columns.specs.Column.{number_text, fits_column, column_text}
@@ -35,7 +36,7 @@ use Rattle.records.specs.Soundness.{most_windows}
 use Rattle.observation.specs.Calls.{fresh_answer}
 use Rattle.observation.specs.RecordAfter.{record_after}
 use Rattle.recordings.specs.TextLines.{text_line_bytes, text_line_count, text_line_at, text_line_number, number_or0, number_at}
-use Rattle.recordings.specs.InputRefusal.{no_system, is_none, number_refusal, text_line_refusal, first_of, refusal_before}
+use Rattle.recordings.specs.InputRefusal.{no_system, number_refusal, text_line_refusal, first_of, refusal_before}
 use Rattle.recordings.specs.Windows.{system_in, window_in, window_count, rows_in, record_in}
 use Rattle.recordings.proofs.FirstOf.{first_of-same}
 use Rattle.recordings.proofs.Samples.{sample-le}
@@ -77,19 +78,18 @@ module _ (z : ℤ) (in-range : out_of_range z ≡ false) where
   unfolding number_line
   number_line-column = take_at (column_text column_width z) (newline ∷ []) column_width column-length
 
-  number_line-number : text_line_number (number_line z) ≡ some z
+  number_line-number : text_line_number (number_line z) ≡ Some z
   unfolding text_line_number
   number_line-number = rw (number_line-length, number_line-newline, number_line-column, read-of-text column_width z)
 
-none_before : (z : ℤ) (numbers : List ℤ) → any_of out_of_range (z ∷ numbers) ≡ false → (out_of_range z ≡ false) × (any_of out_of_range numbers ≡ false)
-unfolding any_of
-none_before z numbers e = by-test (out_of_range z) (any_of out_of_range numbers) e
+none_before : (z : ℤ) (numbers : List ℤ) → list_any out_of_range (z ∷ numbers) ≡ false → (out_of_range z ≡ false) × (list_any out_of_range numbers ≡ false)
+none_before z numbers e = by-test (out_of_range z) (list_any out_of_range numbers) e
   where
     by-test : (a b : Bool) → (a || b) ≡ false → (a ≡ false) × (b ≡ false)
     by-test true b p = absurd (true≢false p)
     by-test false b p = (refl, p)
 
-numbers_text-length : (numbers : List ℤ) → any_of out_of_range numbers ≡ false → length (numbers_text numbers) ≡ text_line_bytes * length numbers
+numbers_text-length : (numbers : List ℤ) → list_any out_of_range numbers ≡ false → length (numbers_text numbers) ≡ text_line_bytes * length numbers
 unfolding numbers_text
 numbers_text-length [] e = refl
 numbers_text-length (z ∷ numbers) e =
@@ -100,7 +100,7 @@ text_line_at-first : (line rest : List ℕ) → length line ≡ text_line_bytes 
 unfolding text_line_at
 text_line_at-first line rest long = take_at line rest text_line_bytes long
 
-text_line_at-number : (numbers : List ℤ) (i : ℕ) → any_of out_of_range numbers ≡ false → i < length numbers
+text_line_at-number : (numbers : List ℤ) (i : ℕ) → list_any out_of_range numbers ≡ false → i < length numbers
     → text_line_at (numbers_text numbers) i ≡ number_line (get_or numbers i (pos 0))
 unfolding numbers_text
 text_line_at-number [] i e h = absurd (not-suc-le-zero h)
@@ -113,15 +113,15 @@ text_line_at-number (z ∷ numbers) (suc i) e h =
     ∙ text_line_at-after (number_line z) (numbers_text numbers) 1 i (number_line-length z both.0)
     ∙ text_line_at-number numbers i both.1 (omega arith)
 
-module _ (numbers : List ℤ) (in-range : any_of out_of_range numbers ≡ false) where
+module _ (numbers : List ℤ) (in-range : list_any out_of_range numbers ≡ false) where
   text_line_count-numbers : text_line_count (numbers_text numbers) ≡ length numbers
   unfolding text_line_count
   text_line_count-numbers = rw (numbers_text-length numbers in-range) (omega arith)
 
-  text_line_number-is : (i : ℕ) → i < length numbers → text_line_number (text_line_at (numbers_text numbers) i) ≡ some (get_or numbers i (pos 0))
+  text_line_number-is : (i : ℕ) → i < length numbers → text_line_number (text_line_at (numbers_text numbers) i) ≡ Some (get_or numbers i (pos 0))
   text_line_number-is i h =
       rw (text_line_at-number numbers i in-range h)
-      (number_line-number (get_or numbers i (pos 0)) (any_of-none out_of_range numbers i (pos 0) in-range h))
+      (number_line-number (get_or numbers i (pos 0)) (list_any-none out_of_range numbers i (pos 0) in-range h))
 
   number_at-is : (i : ℕ) → i < length numbers → number_at (numbers_text numbers) i ≡ get_or numbers i (pos 0)
   unfolding number_at number_or0
@@ -147,25 +147,24 @@ system-in-range system known =
 abbrev pub rows_of : Kind → Setup → List ℤ → ℕ → List Row
 rows_of kind setup samples w = tabulate w (λ v. window_row kind setup (window_at samples (window_length * v)))
 
-module _ (system : ℕ) (samples : List ℤ) (w : ℕ) (known : is_system system ≡ true) (in-range : any_of out_of_range samples ≡ false) (long : length samples ≡ window_length * w) where
+module _ (system : ℕ) (samples : List ℤ) (w : ℕ) (known : is_system system ≡ true) (in-range : list_any out_of_range samples ≡ false) (long : length samples ≡ window_length * w) where
   abbrev text : List ℕ
   text = recording_text system samples
 
-  all-in-range : any_of out_of_range (pos system ∷ samples) ≡ false
-  unfolding any_of
+  all-in-range : list_any out_of_range (pos system ∷ samples) ≡ false
   all-in-range = rw (system-in-range system known) in-range
 
   count-is : text_line_count text ≡ window_length * w + 1
   count-is = text_line_count-numbers (pos system ∷ samples) all-in-range ∙ omega (arith, long)
 
   line-accepted : w ≤ most_windows → (i : ℕ) → i < suc (length samples) → text_line_refusal text i ≡ no_refusal
-  unfolding text_line_refusal number_refusal is_none no_system number_or0
+  unfolding text_line_refusal number_refusal no_system number_or0
   line-accepted most zero h = rw (text_line_number-is (pos system ∷ samples) all-in-range 0 h, known)
   line-accepted most (suc j) h =
       rw (
         text_line_number-is (pos system ∷ samples) all-in-range (suc j) h,
         ne_eqb (suc j) 0 (λ e. omega arith),
-        any_of-none out_of_range samples j (pos 0) in-range (omega arith),
+        list_any-none out_of_range samples j (pos 0) in-range (omega arith),
         ne_eqb (suc j) (window_length * (most_windows + 1)) (λ e. omega (arith, long)),
       )
 

@@ -8,12 +8,13 @@ use native.Mathlib.Omega.{arith}
 use lib.IntN.{ℤ}
 use lib.ListN.{length, replicate}
 use Rattle.algebra.specs.Largest.{largest}
-use Rattle.algebra.specs.Lists.{tabulate, joined, any_of}
+use Rattle.algebra.specs.Lists.{tabulate, joined}
+use Rattle.std.specs.List.{list_any}
 use Rattle.algebra.specs.Rounding.{nearest}
 use Rattle.algebra.specs.Weighted.{sum_over}
 use Rattle.square_root.specs.Root.{root_of}
 use Rattle.columns.specs.Text.{newline, bytes_of, right_justified}
-use Rattle.columns.specs.Column.{are_digits, is_whole, place_value, whole_number, negative_number, signed_number, after_blanks, column_number, decimal_within, decimal_text, number_text, column_text}
+use Rattle.columns.specs.Column.{is_whole, place_value, whole_number, negative_number, signed_number, after_blanks, column_number, decimal_within, decimal_text, number_text, column_text}
 use Rattle.listing.specs.Listing.{header, order_line, order_text, orders_text, listing_text}
 use Rattle.listing.specs.RefusalLine.{refusal_line}
 use Rattle.rows.specs.declared.Row.{Row}
@@ -37,7 +38,7 @@ use Rattle.records.specs.Soundness.{none_above, all_zero, is_sound}
 use Rattle.observation.specs.Calls.{empty_record, fresh_refusal, fresh_answer, book_at, next_book, with_row, row_checks, add_row_refusal, add_row_answer}
 use Rattle.observation.specs.RecordAfter.{record_after}
 use Rattle.recordings.specs.TextLines.{text_line_count, text_line_at, text_line_number, number_or0}
-use Rattle.recordings.specs.InputRefusal.{no_system, is_none, number_refusal, text_line_refusal, first_of, refusal_before, end_refusal, input_refusal}
+use Rattle.recordings.specs.InputRefusal.{no_system, number_refusal, text_line_refusal, first_of, refusal_before, end_refusal, input_refusal}
 use Rattle.harmlist_output.specs.Output.{harmlist_output}
 use Rattle.harmlist_output.proofs.RecordingText.{recording_text, rows_of, harmlist_output-recording}
 
@@ -47,8 +48,8 @@ abbrev heard : List ℤ
 heard = silence ++ pulse
 
 heard-windows :
-    (window_at heard 0 ≡ silence) × (window_at heard 2048 ≡ pulse) × (any_of out_of_range heard ≡ false) × (length heard ≡ 2048 * 2)
-unfolding window_at silence pulse any_of out_of_range
+    (window_at heard 0 ≡ silence) × (window_at heard 2048 ≡ pulse) × (list_any out_of_range heard ≡ false) × (length heard ≡ 2048 * 2)
+unfolding window_at silence pulse out_of_range
 heard-windows = (refl, refl, refl, refl)
 
 -- the values of lines that are alike
@@ -56,7 +57,7 @@ flat-values :
     (group_values HarmonicGroup (setup_of 10 0) (replicate 512 0) ≡ replicate 40 0)
     × (group_values HarmonicGroup (setup_of 10 0) (replicate 512 4000000) ≡ replicate 40 8944)
     × (group_values HarmonicSubgroup (setup_of 10 0) (replicate 512 4000000) ≡ replicate 40 4898)
-unfolding group_values group_answer group_refusal is_system is_edition is_order any_of group_value value_over span_of grouped_as weights_in tabulate weighted_sum sum_over root_of largest
+unfolding group_values group_answer group_refusal is_system is_edition is_order group_value value_over span_of grouped_as weights_in tabulate weighted_sum sum_over root_of largest
 flat-values = (refl, refl, refl)
 
 row-of :
@@ -85,7 +86,7 @@ rows-of-both = rw (heard-windows.0, heard-windows.1, heard-rows.0, heard-rows.1)
 
 -- •8: 0 and then 8944
 smoothed-of-both : (record_after (fresh_answer (setup_of 10 0)).observation (row_with 0 ∷ row_with 8944 ∷ [])).smoothed ≡ replicate 40 1116
-unfolding record_after fresh_answer fresh_refusal add_row_answer add_row_refusal row_checks same_setup is_sound is_setup is_system is_edition none_above all_zero any_of empty_record with_row with_latest first_values tabulate next_book book_at book_step smoothed_next smoothed_value nearest
+unfolding record_after fresh_answer fresh_refusal add_row_answer add_row_refusal row_checks same_setup is_sound is_setup is_system is_edition none_above all_zero empty_record with_row with_latest first_values tabulate next_book book_at book_step smoothed_next smoothed_value nearest
 smoothed-of-both = refl
 
 -- the orders in their column
@@ -127,5 +128,5 @@ refusals =
     []
 
 refusals-written : map (λ c. harmlist_output c.0) refusals ≡ map (λ c. bytes_of c.1) refusals
-unfolding harmlist_output refusal_line column_text right_justified number_text decimal_text decimal_within input_refusal end_refusal refusal_before first_of text_line_refusal number_refusal is_none no_system text_line_number text_line_at number_or0 text_line_count bytes_of column_number signed_number after_blanks whole_number negative_number is_whole are_digits place_value out_of_range is_system
+unfolding harmlist_output refusal_line column_text right_justified number_text decimal_text decimal_within input_refusal end_refusal refusal_before first_of text_line_refusal number_refusal no_system text_line_number text_line_at number_or0 text_line_count bytes_of column_number signed_number after_blanks whole_number negative_number is_whole place_value out_of_range is_system
 refusals-written = refl

@@ -1,5 +1,6 @@
 -- The numbers that stand for the kinds of document 01's table "Groups".
 use Rattle.std.specs.Prelude.{Bool, not, List, [], ◌∷◌, ℕ, ltb, length, get_or}
+use Rattle.exported_answers.specs.OwnChecks.{unknown_kind}
 use Rattle.kinds.specs.declared.Kind.{Kind}
 use Rattle.kinds.specs.declared.Kind.TheVariants.{Component, HarmonicGroup, HarmonicSubgroup, InterharmonicGroup, InterharmonicCentredSubgroup}
 
@@ -20,9 +21,6 @@ is_kind number = ltb number (length kinds)
 unfoldable pub kind_with : ℕ → Kind
 kind_with number = get_or kinds number InterharmonicCentredSubgroup
 
--- a number that stands for no kind
-abbrev pub unknown_kind : ℕ
-unknown_kind = 101
-
+-- the check "101 no kind has the number"
 abbrev pub kind_check : ℕ → Bool × ℕ
 kind_check number = (not (is_kind number), unknown_kind)

@@ -1,14 +1,14 @@
 // The five kinds of a group, and the span of neighbouring lines that a group of each takes under an edition.
-// Every function takes whatever it is handed.
+// Every function takes whatever it is handed. System and edition stay numbers: the span under an unknown one is defined too (specs/Kinds.antt).
 #![tactic(auto)]
 
-ghost use Rattle.std.specs.Prelude.{◌≡◌, ◌-◌};
+ghost use Rattle.std.specs.Prelude.{◌≡◌};
 ghost use Rattle.kinds.specs.Kinds.{span_of, grouped_as};
 
 use rows::EDITION_A1;
 
 // The five groupings of document 01.
-#[derive(Clone, Copy)]
+#[derive(Clone, Copy, Debug, PartialEq, Eq)]
 pub enum Kind {
     Component,
     HarmonicGroup,
@@ -18,7 +18,7 @@ pub enum Kind {
 }
 
 // Neighbouring lines, which a group takes with weight 1, or with weight 1/2 at both ends.
-#[derive(Clone, Copy)]
+#[derive(Clone, Copy, Debug, PartialEq, Eq)]
 pub struct Span {
     pub first: usize,
     pub count: usize,
@@ -26,32 +26,18 @@ pub struct Span {
 }
 
 // The kind whose lines a group takes: under A1 the harmonic group of order 1 is its component alone.
+#[tactic(auto, unfolding(crate::specs::Kinds::grouped_as))]
 pub fn grouped_as(kind: Kind, edition: u32, order: u32) -> Kind
     ensures { result ≡ grouped_as kind edition order }
 {
     match kind {
-        Kind::HarmonicGroup => {
-            if (edition == EDITION_A1) & (order == 1) {
-                Kind::Component
-            } else {
-                Kind::HarmonicGroup
-            }
-        }
-        Kind::Component => Kind::Component,
-        Kind::HarmonicSubgroup => Kind::HarmonicSubgroup,
-        Kind::InterharmonicGroup => Kind::InterharmonicGroup,
-        Kind::InterharmonicCentredSubgroup => Kind::InterharmonicCentredSubgroup,
+        Kind::HarmonicGroup if edition == EDITION_A1 && order == 1 => Kind::Component,
+        other => other,
     }
 }
 
-// The first less the second, not below 0.
-fn less(a: usize, b: usize) -> usize
-    ensures { result ≡ a - b }
-{
-    if a < b { 0 } else { a - b }
-}
-
 // The lines of a kind, by a system and an order.
+#[tactic(auto, unfolding(crate::specs::Kinds::span_of))]
 pub fn span_of(kind: Kind, system: u32, order: u32) -> Span
     ensures { result ≡ span_of kind system order }
 {
@@ -64,23 +50,23 @@ pub fn span_of(kind: Kind, system: u32, order: u32) -> Span
             half_ends: false,
         },
         Kind::HarmonicGroup => Span {
-            first: less(centre, cycles / 2),
+            first: centre.saturating_sub(cycles / 2),
             count: cycles + 1,
             half_ends: true,
         },
         Kind::HarmonicSubgroup => Span {
-            first: less(centre, 1),
+            first: centre.saturating_sub(1),
             count: 3,
             half_ends: false,
         },
         Kind::InterharmonicGroup => Span {
             first: centre + 1,
-            count: less(cycles, 1),
+            count: cycles.saturating_sub(1),
             half_ends: false,
         },
         Kind::InterharmonicCentredSubgroup => Span {
             first: centre + 2,
-            count: less(cycles, 3),
+            count: cycles.saturating_sub(3),
             half_ends: false,
         },
     }

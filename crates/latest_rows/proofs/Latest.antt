@@ -12,7 +12,11 @@ use Rattle.algebra.specs.Lists.{tabulate}
 use Rattle.algebra.proofs.Lists.{length-tabulate, get_or-tabulate, tabulate-eq, tabulate-last, tabulate-first, tabulate-same}
 use Rattle.rows.specs.Orders.{order_count}
 use Rattle.rows.specs.Rows.{first_values}
+use Rattle.rows.proofs.Rows.{first_values-whole}
 use Rattle.latest_rows.specs.Latest.{rows_kept, values_kept, row_place, with_latest, latest_values, last_of}
+
+-- the 40 values of a row are its first values
+pub ruleset whole_rows = (first_values-whole)
 
 -- a row ends within the kept values
 pub row_fits : (n : ℕ) → row_place n + order_count ≤ values_kept

@@ -1,8 +1,8 @@
 // The latest rows of a record: where the values of a row stand, and a new row in place of the oldest.
 #![tactic(auto)]
 
-ghost use Rattle.std.specs.Prelude.{◌≡◌, length};
-ghost use Rattle.latest_rows.specs.Latest.{values_kept, row_place, with_latest};
+ghost use Rattle.std.specs.Prelude.{◌≡◌};
+ghost use Rattle.latest_rows.specs.Latest.{row_place, with_latest};
 
 use rows::ORDER_COUNT;
 
@@ -18,22 +18,11 @@ pub fn row_place(windows: u32) -> usize
     windows as usize % ROWS_KEPT * ORDER_COUNT
 }
 
-// Puts the row that comes after so many windows where the oldest stood.
-fn put_row(latest: &mut [u32], windows: u32, values: &[u32; ORDER_COUNT])
-    requires { length latest.old ≡ values_kept }
-    ensures { latest.new ≡ with_latest windows values.now latest.old }
-{
-    let place = row_place(windows);
-    let mut i = 0;
-    while i < ORDER_COUNT {
-        latest[place + i] = values[i];
-        i += 1;
-    }
-}
-
 // Keeps the row that comes after so many windows, and the oldest no more.
+#[tactic(auto, using(std::proofs::lemmas::Grind::common_steps, crate::proofs::Latest::whole_rows), unfolding(crate::specs::Latest::with_latest))]
 pub fn keep_row(latest: &mut [u32; VALUES_KEPT], windows: u32, values: &[u32; ORDER_COUNT])
     ensures { latest.new ≡ with_latest windows values.now latest.old }
 {
-    put_row(latest, windows, values)
+    let place = row_place(windows);
+    latest[place..place + ORDER_COUNT].copy_from_slice(values);
 }

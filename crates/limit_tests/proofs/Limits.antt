@@ -8,6 +8,7 @@ use mir.Syntax.{w32}
 use mir.Val.{Fits}
 use Rattle.algebra.specs.Fraction.{Fraction, times, divide, ◌≈ᶠ◌}
 use Rattle.algebra.proofs.Fraction.{≈ᶠ-times, ≈ᶠ-divide}
+use Rattle.fractions.specs.declared.Ratio.{Ratio}
 use Rattle.fractions.specs.Parts.{parts}
 use Rattle.fractions.proofs.Parts.{Same, parts_same}
 use Rattle.classes.specs.declared.Class.{Class}
@@ -49,3 +50,15 @@ module _ (class : Class) (order scale : ℕ) where
       let scale-le : scale ≤ 2 ^ 32 = omega arith in
       let limit-le = limit_or_zero-le class order in
       (mul-le-mul scale-le limit-le.0, mul-le-mul_left milliamperes limit-le.1)
+
+-- the parts of a limit in milliamperes that the code holds
+pub held_le :
+    (class : Class) (order : ℕ) (limit : Ratio) → limit ≡ parts (limit_or_zero class order) →
+    (limit.numerator ≤ largest_numerator) × (limit.denominator ≤ largest_denominator)
+held_le class order limit e = rw e (limit_or_zero-le class order)
+
+-- and in units
+pub held_in_units_le :
+    (class : Class) (order scale : ℕ) (limit : Ratio) → limit ≡ parts (listed_in_units class order scale) → Fits w32 scale →
+    (limit.numerator ≤ 2 ^ 32 * largest_numerator) × (limit.denominator ≤ milliamperes * largest_denominator)
+held_in_units_le class order scale limit e fits = rw e (listed_in_units-le class order scale fits)

@@ -1,30 +1,19 @@
-// The limit of an order, asked for by the letter of a class.
+// The limit of an order, asked for by the letter of a class, a byte, since 15 is the answer to one that names none.
 ghost use Rattle.std.specs.Prelude.{◌≡◌};
-ghost use Rattle.limits.specs.Call.{limit_answer};
+ghost use Rattle.limits.specs.Call.{limit_answer, limit_answer_of};
 
-use crate::LimitAnswer;
-use crate::limit::{class_limit, has_limit, no_limit};
-use classes::{class_with, is_class};
-use refusals::{NO_REFUSAL, ORDER_OUT_OF_RANGE, UNKNOWN_CLASS, fault_or};
+use crate::limit::{class_limit, has_limit};
+use classes::Class;
+use fractions::Ratio;
+use refusals::{Refusal, refuse_if};
 
-// The limit of an order in a class in milliamperes, in lowest terms, or the refusal. Refused: 6 order outside
-// 2..40, 15 class letter not A or B.
-pub fn order_limit(order: u32, letter: u8) -> LimitAnswer
-    ensures { result ≡ limit_answer order letter }
+// The limit of an order in a class in milliamperes, in lowest terms. Refused: 6 order outside 2..40, 15 class
+// letter not A or B.
+#[tactic(auto, unfolding(crate::specs::Call::limit_answer, crate::specs::Call::limit_refusal))]
+pub fn order_limit(order: u32, letter: u8) -> Result<Ratio, Refusal>
+    ensures { limit_answer_of result ≡ limit_answer order letter }
 {
-    let refusal = fault_or(
-        !has_limit(order),
-        ORDER_OUT_OF_RANGE,
-        fault_or(!is_class(letter), UNKNOWN_CLASS, NO_REFUSAL),
-    );
-    if refusal != NO_REFUSAL {
-        return LimitAnswer {
-            refusal,
-            limit: no_limit(),
-        };
-    }
-    LimitAnswer {
-        refusal,
-        limit: class_limit(class_with(letter), order),
-    }
+    refuse_if(!has_limit(order), Refusal::OrderOutOfRange)?;
+    let class = Class::try_from(letter)?;
+    Ok(class_limit(class, order))
 }

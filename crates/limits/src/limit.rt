@@ -1,10 +1,9 @@
 // The limit of an order in a class.
-ghost use Rattle.std.specs.Prelude.{true, cond, ◌≡◌, ◌%◌, ◌<◌, eqb};
-ghost use Rattle.algebra.specs.Fraction.{whole};
+ghost use Rattle.std.specs.Prelude.{cond, ◌≡◌, ◌%◌, ◌<◌, eqb};
 ghost use Rattle.fractions.specs.Parts.{parts};
-ghost use Rattle.limits.specs.Limit.{has_limit, listed_limit, limit_or_zero};
+ghost use Rattle.limits.specs.Limit.{has_limit, limit_or_zero};
 
-use crate::limit_table::row_of;
+use crate::limit_table::{LimitRow, row_of};
 use classes::Class;
 use fractions::Ratio;
 use rows::ORDER_COUNT;
@@ -18,7 +17,7 @@ pub(crate) const LIMITED_ORDERS: usize = ORDER_COUNT - 1;
 pub fn has_limit(order: u32) -> bool
     ensures { result ≡ has_limit order }
 {
-    (FIRST_LIMITED <= order) & (order <= ORDER_COUNT as u32)
+    (FIRST_LIMITED..=ORDER_COUNT as u32).contains(&order)
 }
 
 // A divisor where it divides the number, else 1.
@@ -29,15 +28,23 @@ fn divisor_or_one(number: u64, divisor: u64) -> u64
     if number % divisor == 0 { divisor } else { 1 }
 }
 
-// The limit of an order in milliamperes, in lowest terms: class A's from the table, class B's as three halves of
-// it. The parts of a row have no common divisor, so that those of three halves can share only 2 and 3.
-fn table_limit(class: Class, order: u32) -> Ratio
-    requires { has_limit order ≡ true }
-    ensures { result ≡ parts (listed_limit class order) }
+// What stands in place of a limit where there is none: 0.
+const NO_LIMIT: Ratio = Ratio {
+    numerator: 0,
+    denominator: 1,
+};
+
+// The limit of an order in a class in milliamperes, in lowest terms, or 0 for an order that has none: class A's
+// from the table, class B's as three halves of it. The parts of a row have no common divisor, so that those of
+// three halves can share only 2 and 3.
+pub fn class_limit(class: Class, order: u32) -> Ratio
+    ensures { result ≡ parts (limit_or_zero class order) }
 {
-    let row = row_of(order);
-    let numerator = row.1 as u64;
-    let denominator = row.2 as u64;
+    let Some(LimitRow(_, numerator, denominator)) = row_of(order) else {
+        return NO_LIMIT;
+    };
+    let numerator = u64::from(numerator);
+    let denominator = u64::from(denominator);
     match class {
         Class::A => Ratio {
             numerator,
@@ -50,26 +57,5 @@ fn table_limit(class: Class, order: u32) -> Ratio
                 denominator: 2 * denominator / common,
             }
         }
-    }
-}
-
-// What stands in place of a limit where there is none: 0.
-pub(crate) fn no_limit() -> Ratio
-    ensures { result ≡ parts (whole 0) }
-{
-    Ratio {
-        numerator: 0,
-        denominator: 1,
-    }
-}
-
-// The limit of an order in a class in milliamperes, in lowest terms, or 0 for an order that has none.
-pub fn class_limit(class: Class, order: u32) -> Ratio
-    ensures { result ≡ parts (limit_or_zero class order) }
-{
-    if has_limit(order) {
-        table_limit(class, order)
-    } else {
-        no_limit()
     }
 }

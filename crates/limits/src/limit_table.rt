@@ -1,17 +1,17 @@
 // The constant table of class A's limits, and its lookup.
-ghost use Rattle.std.specs.Prelude.{true, ◌≡◌};
-ghost use Rattle.limits.specs.Limit.{has_limit, limit_row, limit_rows};
+ghost use Rattle.std.specs.Prelude.{cond, ◌≡◌};
+ghost use Rattle.limits.specs.Limit.{has_limit, limit_row};
 
-use crate::limit::{FIRST_LIMITED, LIMITED_ORDERS};
+use crate::limit::{FIRST_LIMITED, LIMITED_ORDERS, has_limit};
 
-// A row of the table: an order, and its limit in milliamperes as a numerator and a denominator, in lowest
-// terms.
+// A row of the table: an order, and its limit in milliamperes as a numerator and a denominator, in lowest terms. The parts have no names, so that each row of
+// the table is one short line.
 #[derive(Clone, Copy)]
 pub struct LimitRow(pub u16, pub u16, pub u16);
 
 // Class A of IEC 61000-3-2. It is printed in amperes, and with one row, 0.15 x 15/n, for the odd orders 15..39
 // and one, 0.23 x 8/n, for the even orders 8..40.
-const CLASS_A: [LimitRow; LIMITED_ORDERS] = [
+static CLASS_A: [LimitRow; LIMITED_ORDERS] = [
     LimitRow(2, 1080, 1),
     LimitRow(3, 2300, 1),
     LimitRow(4, 430, 1),
@@ -53,18 +53,13 @@ const CLASS_A: [LimitRow; LIMITED_ORDERS] = [
     LimitRow(40, 46, 1),
 ];
 
-// The table, each row shown to be its definition.
-fn limit_rows() -> [LimitRow; LIMITED_ORDERS]
-    ensures { result ≡ limit_rows }
+// The row of an order, for an order that has a limit.
+pub(crate) fn row_of(order: u32) -> Option<LimitRow>
+    ensures { result ≡ cond (has_limit order) (Some (limit_row order)) None }
 {
-    CLASS_A
-}
-
-// The row of an order. A constant array is copied where it is used, so it is used once.
-pub(crate) fn row_of(order: u32) -> LimitRow
-    requires { has_limit order ≡ true }
-    ensures { result ≡ limit_row order }
-{
-    let rows = limit_rows();
-    rows[(order - FIRST_LIMITED) as usize]
+    if has_limit(order) {
+        Some(CLASS_A[(order - FIRST_LIMITED) as usize])
+    } else {
+        None
+    }
 }

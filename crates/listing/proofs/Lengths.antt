@@ -1,8 +1,9 @@
 -- The listing's columns fit, a line has 40 bytes, and the whole listing 80 to 1,640.
 use mathlib.Core.Bool.{Bool, true, false, cond, and-false}
-use mathlib.Core.List.{List, []}
+use mathlib.Core.List.{List, [], ◌++◌}
 use mathlib.Core.Path.{◌≡◌, refl}
-use Prim.Native.Nat.{ℕ, zero, suc, ◌-◌, ◌*◌, ◌^◌, ◌≤◌, ◌<◌}
+use Prim.Native.Nat.{ℕ, zero, suc, ◌+◌, ◌-◌, ◌*◌, ◌^◌, ◌≤◌, ◌<◌}
+use native.Mathlib.Numerals.{add-one}
 use native.Mathlib.Omega.{arith}
 use borrow.Author.Tests.{le-leb}
 use lib.IntN.{pos}
@@ -24,19 +25,19 @@ unfolding fits_column number_text
 fits_of_lt zero n some h = absurd (omega arith)
 fits_of_lt (suc w) n some h = le-leb _ _ (length-le w n h)
 
-pub order-fits : (h : ℕ) → h ≤ order_count → fits_column order_width (pos h) ≡ true
-order-fits h small = fits_of_lt order_width h (omega arith) (omega arith)
+pub order_fits : (w h : ℕ) → w ≡ order_width → h ≤ order_count → fits_column w (pos h) ≡ true
+order_fits w h wide small = rw wide (fits_of_lt order_width h (omega arith) (omega arith))
 
-pub value-fits : (n : ℕ) → n < 2 ^ 32 → fits_column value_width (pos n) ≡ true
-value-fits n small = fits_of_lt value_width n (omega arith) (omega arith)
+pub value_fits : (w n : ℕ) → w ≡ value_width → n < 2 ^ 32 → fits_column w (pos n) ≡ true
+value_fits w n wide small = rw wide (fits_of_lt value_width n (omega arith) (omega arith))
 
 module _ (h group subgroup smoothed : ℕ) (order : h ≤ order_count) (g : group < 2 ^ 32) (s : subgroup < 2 ^ 32) (m : smoothed < 2 ^ 32) where
-  pub length-line : length (order_line h group subgroup smoothed) ≡ text_line_length
+  pub length_line : length (order_line h group subgroup smoothed) ≡ text_line_length
   unfolding order_line
-  length-line =
+  length_line =
       let value-length : (n : ℕ) → n < 2 ^ 32 → length (column_text value_width (pos n)) ≡ value_width =
-      λ n small. length-of-text value_width (pos n) (value-fits n small) in
-      let order-length : length (column_text order_width (pos h)) ≡ order_width = length-of-text order_width (pos h) (order-fits h order) in
+      λ n small. length-of-text value_width (pos n) (value_fits value_width n refl small) in
+      let order-length : length (column_text order_width (pos h)) ≡ order_width = length-of-text order_width (pos h) (order_fits order_width h refl order) in
       simp length-append (omega (arith, order-length, value-length group g, value-length subgroup s, value-length smoothed m))
 
   pub length-order-le : length (order_text h group subgroup smoothed) ≤ text_line_length
@@ -45,7 +46,15 @@ module _ (h group subgroup smoothed : ℕ) (order : h ≤ order_count) (g : grou
     where
       by-case : (left : Bool) → length (cond left [] (order_line h group subgroup smoothed)) ≤ text_line_length
       by-case true = omega arith
-      by-case false = omega (arith, length-line)
+      by-case false = omega (arith, length_line)
+
+-- the orders up to one more
+pub orders_text_more :
+    (n : ℕ) (group subgroup smoothed : List ℕ) →
+    orders_text (n + 1) group subgroup smoothed
+    ≡ orders_text n group subgroup smoothed ++ order_text (n + 1) (get_or group n 0) (get_or subgroup n 0) (get_or smoothed n 0)
+unfolding orders_text
+orders_text_more n group subgroup smoothed = rw add-one
 
 -- every value of a list is below 2^32
 abbrev pub Values : List ℕ → Type 0
@@ -67,7 +76,7 @@ module _ (group subgroup smoothed : List ℕ) (g : Values group) (s : Values sub
   length-orders-ge : (n : ℕ) → text_line_length ≤ length (orders_text (suc n) group subgroup smoothed)
   unfolding orders_text order_text
   length-orders-ge zero =
-      let first = length-line 1 (get_or group 0 0) (get_or subgroup 0 0) (get_or smoothed 0 0) (omega arith) (g 0) (s 0) (m 0) in
+      let first = length_line 1 (get_or group 0 0) (get_or subgroup 0 0) (get_or smoothed 0 0) (omega arith) (g 0) (s 0) (m 0) in
       simp and-false (omega (arith, first))
   length-orders-ge (suc n) = rw length-append (omega (arith, length-orders-ge n))
 

@@ -1,4 +1,4 @@
--- The laws of texts that are put into a buffer, the lengths of the listing and of the line for a refusal, and worked listings.
+-- A text put after the text at the front of a buffer, the lengths of the listing and of the line for a refusal, and worked listings.
 pub mod Puts
 pub mod Lengths
 pub mod RefusalLine

@@ -5,7 +5,7 @@ use mathlib.Core.Path.{◌≡◌, refl}
 use Prim.Native.Nat.{ℕ}
 use Prim.Native.String.{String}
 use lib.ListN.{replicate}
-use Rattle.refusals.specs.declared.Answer.{Answer}
+use Rattle.refusals.specs.Answers.{Answer}
 use Rattle.columns.specs.Text.{bytes_of, right_justified}
 use Rattle.columns.specs.Column.{decimal_within, decimal_text, number_text, fits_column, column_text}
 use Rattle.listing.specs.Listing.{header, order_line, order_text, orders_text, listing_text, listing_refusal, listing_answer, listing_exit}

@@ -1,4 +1,3 @@
 -- What document 01 says of the listing and of the line for a refusal.
-pub mod Put
 pub mod Listing
 pub mod RefusalLine

@@ -2,8 +2,7 @@
 use Rattle.std.specs.Prelude.{Bool, cond, not, ◌&&◌, List, [], ◌∷◌, ◌++◌, ℕ, zero, suc, ◌+◌, ◌*◌, eqb, ltb, pos, length, get_or, drop}
 use Rattle.rows.specs.Orders.{order_count}
 use Rattle.refusals.specs.Numbers.{wrong_buffer_length}
-use Rattle.refusals.specs.Answers.{first_fault, unless_refused, answer}
-use Rattle.refusals.specs.declared.Answer.{Answer}
+use Rattle.refusals.specs.Answers.{Answer, first_fault, unless_refused, answer}
 use Rattle.columns.specs.Text.{newline, bytes_of, right_justified}
 use Rattle.columns.specs.Column.{column_text}
 

@@ -1,9 +1,8 @@
-// The listing of the 40 orders, and the line that is written in place of it for a refusal. The
-// caller lends the buffer.
+// The listing of the 40 orders, and the line that is written in place of it for a refusal. The caller lends the buffer.
 #![tactic(auto)]
 
 mod listing;
-mod put;
+mod order_line;
 mod refusal_line;
 
 pub use listing::fill_listing;

@@ -1,44 +1,31 @@
 // The line that is written in place of a listing: a word, the refusal's number and a newline.
-ghost use Rattle.std.specs.Prelude.{true, ◌≡◌, pos, length};
-ghost use Rattle.columns.specs.Column.{fits_column};
-ghost use Rattle.listing.specs.RefusalLine.{refusal_width, refusal_line_length, refusal_line, refusal_line_refusal, refusal_line_exit};
+ghost use Rattle.std.specs.Prelude.{◌≡◌};
+ghost use Rattle.refusals.specs.Answers.{refusal_of};
+ghost use Rattle.listing.specs.RefusalLine.{refusal_line_refusal, refusal_line_exit};
 
 use crate::REFUSAL_LINE_LENGTH;
-use crate::put::{put_column, put_text};
-use column_writing::fits_column;
-use columns::NEWLINE;
-use refusals::{NO_REFUSAL, NOT_A_COLUMN, WRONG_BUFFER_LENGTH, fault_or};
+use column_writing::fill_column;
+use refusals::{Refusal, refuse_if};
+
+const WORD: &[u8] = b"refused";
 
 // The width of the refusal's number.
 const REFUSAL_WIDTH: usize = 3;
 
-// Fills a buffer of 11 bytes with the line for a refusal, and answers what refuses that itself, or
-// NO_REFUSAL.
-pub fn fill_refusal_line(refusal: u32, buffer: &mut [u8]) -> u32
-    ensures value { result ≡ refusal_line_refusal buffer.old refusal }
+// Fills a buffer of 11 bytes with the line for a refusal. Refused itself: 14 a buffer of another length, 13 a number of more than 3 digits.
+#[tactic(auto, unfolding(crate::specs::RefusalLine::refusal_line, columns::specs::Text::bytes_of))]
+pub fn fill_refusal_line(refusal: u32, buffer: &mut [u8]) -> Result<(), Refusal>
+    ensures value { refusal_of result ≡ refusal_line_refusal buffer.old refusal }
     ensures buffer_after { buffer.new ≡ refusal_line_exit buffer.old refusal }
 {
-    let refused = fault_or(
+    refuse_if(
         buffer.len() != REFUSAL_LINE_LENGTH,
-        WRONG_BUFFER_LENGTH,
-        fault_or(
-            !fits_column(REFUSAL_WIDTH, refusal as i64),
-            NOT_A_COLUMN,
-            NO_REFUSAL,
-        ),
-    );
-    if refused == NO_REFUSAL {
-        put_refusal_line(buffer, refusal);
-    }
-    refused
-}
-
-fn put_refusal_line(buffer: &mut [u8], refusal: u32)
-    requires buffer_len { length buffer.old ≡ refusal_line_length }
-    requires refusal_value { fits_column refusal_width (pos refusal) ≡ true }
-    ensures { buffer.new ≡ refusal_line refusal }
-{
-    let at = put_text(buffer, b"refused");
-    let end = put_column(buffer, at, REFUSAL_WIDTH, refusal as u64);
-    buffer[end] = NEWLINE;
+        Refusal::WrongBufferLength,
+    )?;
+    let (word, rest) = buffer.split_at_mut(WORD.len());
+    let (number, end) = rest.split_at_mut(REFUSAL_WIDTH);
+    fill_column(number, i64::from(refusal))?;
+    word.copy_from_slice(WORD);
+    end.copy_from_slice(b"\n");
+    Ok(())
 }

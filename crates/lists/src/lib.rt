@@ -2,41 +2,28 @@
 #![tactic(auto)]
 
 ghost use Rattle.std.specs.Prelude.{◌≡◌, ltb, length, get_or};
-ghost use Rattle.algebra.specs.Lists.{any_of};
+ghost use Rattle.std.specs.List.{list_any};
 ghost use Rattle.lists.specs.LentWords.{words_from};
 
 // The number at a place of the list, 0 past its end.
 pub fn number_at(numbers: &[u32], place: usize) -> u32
     ensures { result ≡ get_or numbers.now place 0 }
 {
-    if place < numbers.len() {
-        numbers[place]
-    } else {
-        0
-    }
+    numbers.get(place).copied().unwrap_or(0)
 }
 
 // Writes the numbers to another list, 0 past the last.
 pub fn put_numbers(numbers: &[u32], to: &mut [u32])
     ensures { to.new ≡ words_from 0 (length to.old) numbers.now }
 {
-    let mut i = 0;
-    while i < to.len() {
+    for i in 0..to.len() {
         to[i] = number_at(numbers, i);
-        i += 1;
     }
 }
 
 // Whether some number of the list is above the bound.
 pub fn any_above(numbers: &[u64], bound: u64) -> bool
-    ensures { result ≡ any_of (ltb bound) numbers.now }
+    ensures { result ≡ list_any (ltb bound) numbers.now }
 {
-    let mut i = 0;
-    while i < numbers.len() {
-        if bound < numbers[i] {
-            return true;
-        }
-        i += 1;
-    }
-    false
+    numbers.iter().any(|number| bound < *number)
 }

@@ -9,7 +9,6 @@ use native.Mathlib.Omega.{arith}
 use borrow.Author.Tests.{eqb-true, ne_eqb, leb-false, le-leb, not-false}
 use lib.Dec.{leb}
 use lib.ListN.{get_or}
-use Rattle.algebra.specs.Lists.{any_of}
 use Rattle.rows.specs.Setups.{is_setup}
 use Rattle.rows.specs.declared.Setup.{Setup}
 use Rattle.rows.proofs.Setups.{setup-parts, is_setup-known, same_setup-eq, same_setup-self}
@@ -33,7 +32,7 @@ use Rattle.records.proofs.SoundParts.{sound-parts}
 use Rattle.records.proofs.ZerosToCome.{zeros-with_latest}
 
 pub empty-record-sound : (setup : Setup) → is_setup setup ≡ true → is_sound (empty_record setup) ≡ true
-unfolding is_sound none_above all_zero any_of empty_record
+unfolding is_sound none_above all_zero empty_record
 empty-record-sound setup e = rw e
 
 pub fresh-of-known : (setup : Setup) → is_setup setup ≡ true → (fresh_answer setup).observation ≡ empty_record setup

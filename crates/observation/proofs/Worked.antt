@@ -5,7 +5,7 @@ use Prim.Native.Nat.{ℕ, ◌+◌, ◌*◌, ◌<◌, max}
 use native.Mathlib.Omega.{arith}
 use borrow.Author.Tests.{ne_eqb}
 use lib.ListN.{get_or}
-use Rattle.algebra.specs.Lists.{tabulate, joined, any_of}
+use Rattle.algebra.specs.Lists.{tabulate, joined}
 use Rattle.algebra.specs.Rounding.{nearest}
 use Rattle.algebra.proofs.Lists.{get_or-tabulate}
 use Rattle.rows.specs.Systems.{is_system}
@@ -15,12 +15,11 @@ use Rattle.rows.specs.declared.Row.{Row}
 use Rattle.rows.specs.declared.Setup.{Setup}
 use Rattle.rows.specs.Rows.{first_values}
 use Rattle.records.specs.declared.Observation.{Observation}
-use Rattle.observation.specs.declared.RecordAnswer.{RecordAnswer}
 use Rattle.books.specs.Book.{smoothed_next, book_step}
 use Rattle.books.specs.Smoothing.{smoothed_value}
 use Rattle.latest_rows.specs.Latest.{with_latest}
 use Rattle.records.specs.Soundness.{none_above, all_zero, is_sound}
-use Rattle.observation.specs.Calls.{empty_record, fresh_refusal, fresh_answer, book_at, next_book, with_row, row_checks, add_row_refusal, add_row_answer}
+use Rattle.observation.specs.Calls.{RecordAnswer, empty_record, fresh_refusal, fresh_answer, book_at, next_book, with_row, row_checks, add_row_refusal, add_row_answer}
 use Rattle.records.proofs.WorkedRecords.{keeping, only, single, rows_of, observed_under, observed}
 
 -- ---- fresh record
@@ -120,7 +119,7 @@ calls =
 
 calls-worked : map (λ c. add_row_answer c.observation (record { setup = c.setup; values = only 40 8944 })) calls
     ≡ map (λ c. c.answered) calls
-unfolding add_row_answer add_row_refusal row_checks same_setup is_sound is_setup is_system is_edition none_above all_zero any_of with_row with_latest first_values joined tabulate next_book book_at book_step smoothed_next smoothed_value nearest
+unfolding add_row_answer add_row_refusal row_checks same_setup is_sound is_setup is_system is_edition none_above all_zero with_row with_latest first_values joined tabulate next_book book_at book_step smoothed_next smoothed_value nearest
 calls-worked = refl
 
 -- at every count from 1 on, however large, each order's smoothed value is (1000×new + 7012×old) / 8012 to the nearest; it is added to the sum, and the peak is the greater

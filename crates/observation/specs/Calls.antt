@@ -1,19 +1,25 @@
 -- What the calls `fresh_record` and `add_row` answer (document 01, "The observation record" and the refusal table's rows of these names; document 02,
 -- card 7, for the edition, and card 8, for the latest rows).
-use Rattle.std.specs.Prelude.{Bool, not, List, [], ◌∷◌, ◌++◌, ℕ, ◌+◌, leb, get_or, replicate}
+use Rattle.std.specs.Prelude.{Bool, not, List, [], ◌∷◌, ◌++◌, ℕ, ◌+◌, leb, get_or, replicate, Result, Ok, Err}
 use Rattle.algebra.specs.Lists.{tabulate}
 use Rattle.rows.specs.Orders.{order_count}
 use Rattle.rows.specs.Setups.{setup_checks, same_setup, refused_setup}
 use Rattle.rows.specs.declared.Setup.{Setup}
-use Rattle.refusals.specs.Numbers.{other_setup, record_full}
-use Rattle.refusals.specs.Answers.{first_fault, unless_refused}
+use Rattle.refusals.specs.Numbers.{no_refusal, other_setup, record_full}
+use Rattle.refusals.specs.Answers.{number_of, first_fault, unless_refused}
+use Rattle.refusals.specs.declared.Refusal.{Refusal}
 use Rattle.rows.specs.declared.Row.{Row}
 use Rattle.records.specs.declared.Observation.{Observation}
-use Rattle.observation.specs.declared.RecordAnswer.{RecordAnswer}
+use Rattle.observation.specs.declared.RowRefused.{RowRefused}
 use Rattle.books.specs.Book.{Book, book_step}
 use Rattle.books.specs.Smoothing.{reported}
 use Rattle.latest_rows.specs.Latest.{values_kept, with_latest}
 use Rattle.records.specs.Soundness.{most_windows, sound_first}
+
+-- what document 01 has a call for a record answer: a refusal's number, or that of none, and a record
+pub record RecordAnswer : Type 0 where
+  pub refusal : ℕ
+  pub observation : Observation
 
 -- a record of a setup with zeros
 unfoldable pub empty_record : Setup → Observation
@@ -30,6 +36,16 @@ empty_record setup =
 -- a refused fresh record: system 10, edition 2, zeros
 abbrev pub refused_record : Observation
 refused_record = empty_record refused_setup
+
+-- what a result of the code answers: the record, or the refusal's number with the refused record
+abbrev pub record_answer_of : Result Observation Refusal → RecordAnswer
+record_answer_of (Ok o) = record { refusal = no_refusal; observation = o }
+record_answer_of (Err refusal) = record { refusal = number_of refusal; observation = refused_record }
+
+-- the same where the refusal hands the record back
+abbrev pub added_answer_of : Result Observation RowRefused → RecordAnswer
+added_answer_of (Ok o) = record { refusal = no_refusal; observation = o }
+added_answer_of (Err refused) = record { refusal = number_of refused.refusal; observation = refused.observation }
 
 -- 1 system not 10 or 12; 19 edition not 0 or 1
 abbrev pub fresh_checks : Setup → List (Bool × ℕ)

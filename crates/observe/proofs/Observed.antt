@@ -26,9 +26,8 @@ use Rattle.windows.specs.Checks.{short_check, range_check}
 use Rattle.spectrum.specs.Spectrum.{spectrum_refusal}
 use Rattle.kinds.specs.declared.Kind.{Kind}
 use Rattle.records.specs.declared.Observation.{Observation}
-use Rattle.observation.specs.declared.RecordAnswer.{RecordAnswer}
 use Rattle.records.specs.Soundness.{is_sound, most_windows}
-use Rattle.observation.specs.Calls.{empty_record, refused_record, fresh_checks, fresh_refusal, fresh_answer, with_row, add_row_refusal, add_row_answer}
+use Rattle.observation.specs.Calls.{RecordAnswer, empty_record, refused_record, fresh_checks, fresh_refusal, fresh_answer, with_row, add_row_refusal, add_row_answer}
 use Rattle.observation.specs.RecordAfter.{record_after}
 use Rattle.records.proofs.SoundParts.{sound-parts}
 use Rattle.observation.proofs.SoundRecord.{empty-record-sound, fresh-of-known, with-row-sound, accepted-call, add_row_answer-accepted, add_row_refusal-own}

@@ -17,9 +17,8 @@ use Rattle.spectrum.specs.Spectrum.{spectrum_refusal, spectrum_exit}
 use Rattle.kinds.specs.declared.Kind.{Kind}
 use Rattle.groups.proofs.GroupSum.{window_row-setup, window_row-accepted}
 use Rattle.records.specs.declared.Observation.{Observation}
-use Rattle.observation.specs.declared.RecordAnswer.{RecordAnswer}
 use Rattle.records.specs.Soundness.{is_sound}
-use Rattle.observation.specs.Calls.{add_row_answer}
+use Rattle.observation.specs.Calls.{RecordAnswer, add_row_answer}
 use Rattle.records.proofs.SoundParts.{sound-parts}
 use Rattle.observation.proofs.SoundRecord.{add_row_refusal-own}
 use Rattle.groups.specs.Group.{group_row_answer, window_row}

@@ -6,7 +6,7 @@ use Prim.Native.Nat.{ℕ, ◌-◌, ◌^◌}
 use lib.IntN.{ℤ, pos}
 use lib.ListN.{replicate}
 use Rattle.algebra.specs.Largest.{largest}
-use Rattle.algebra.specs.Lists.{tabulate, any_of}
+use Rattle.algebra.specs.Lists.{tabulate}
 use Rattle.algebra.specs.Rounding.{nearest}
 use Rattle.algebra.specs.Weighted.{sum_over}
 use Rattle.square_root.specs.Root.{root_of}
@@ -91,13 +91,13 @@ refused =
 
 taken-worked :
     map (λ c. observe_refusal c.setup c.recording c.start c.count) taken ≡ map (λ c. c.refusal) taken
-unfolding observe_refusal observe_checks is_system is_edition window_at any_of out_of_range
+unfolding observe_refusal observe_checks is_system is_edition window_at out_of_range
 taken-worked = refl
 
 refused-worked :
     map (λ c. observe_answer HarmonicGroup c.setup c.recording c.start c.count) refused ≡
     map (λ c. record { refusal = c.refusal; observation = alike 10 0 0 0 0 }) refused
-unfolding observe_answer observe_refusal observe_checks is_system is_edition window_at any_of out_of_range empty_record
+unfolding observe_answer observe_refusal observe_checks is_system is_edition window_at out_of_range empty_record
 refused-worked = refl
 
 -- the last window that is taken, and the one after it; 2 and 3 come before 9
@@ -109,7 +109,7 @@ edges-worked :
     add_window_checks (quiet 2047) 0 45000 ∷
     [])
     ≡ 0 ∷ 9 ∷ 3 ∷ 2 ∷ []
-unfolding window_at any_of out_of_range
+unfolding window_at out_of_range
 edges-worked = refl
 
 -- ---- the pulse
@@ -126,7 +126,7 @@ flat-values :
     × (group_values HarmonicGroup (setup_of 10 0) (replicate 512 0) ≡ replicate 40 0)
     × (group_values HarmonicSubgroup (setup_of 12 0) (replicate 512 4000000) ≡ replicate 40 4898)
     × (group_values HarmonicGroup (setup_of 12 1) (replicate 512 4000000) ≡ under_a1)
-unfolding group_values group_answer group_refusal is_system is_edition is_order any_of group_value value_over span_of grouped_as weights_in tabulate weighted_sum sum_over root_of largest
+unfolding group_values group_answer group_refusal is_system is_edition is_order group_value value_over span_of grouped_as weights_in tabulate weighted_sum sum_over root_of largest
 flat-values = (refl, refl, refl, refl)
 
 -- the row of a window, from its lines
@@ -180,14 +180,14 @@ records-of :
     (record_after (empty_record (setup_of 10 0)) (row_of 10 0 (replicate 40 8944) ∷ row_of 10 0 (replicate 40 0) ∷ []) ≡ alike 10 2 7828 16772 8944)
     × (record_after (empty_record (setup_of 12 0)) (row_of 12 0 (replicate 40 4898) ∷ []) ≡ alike 12 1 4898 4898 4898)
     × (record_after (empty_record (setup_of 12 1)) (row_of 12 1 under_a1 ∷ []) ≡ record_under_a1)
-unfolding record_after add_row_answer add_row_refusal row_checks same_setup is_sound is_setup is_system is_edition none_above all_zero any_of empty_record with_row with_latest first_values tabulate next_book book_at book_step smoothed_next smoothed_value nearest
+unfolding record_after add_row_answer add_row_refusal row_checks same_setup is_sound is_setup is_system is_edition none_above all_zero empty_record with_row with_latest first_values tabulate next_book book_at book_step smoothed_next smoothed_value nearest
 records-of = (refl, refl, refl)
 
 passed :
     (observe_refusal (setup_of 10 0) pulse_then_silence 0 2 ≡ 0)
     × (observe_refusal (setup_of 12 0) pulse_then_silence 0 1 ≡ 0)
     × (observe_refusal (setup_of 12 1) pulse_then_silence 0 1 ≡ 0)
-unfolding observe_refusal observe_checks is_system is_edition window_at any_of out_of_range pulse silence
+unfolding observe_refusal observe_checks is_system is_edition window_at out_of_range pulse silence
 passed = (refl, refl, refl)
 
 -- document 01's pulse, 8944 in its harmonic groups, then 7828 as the silent window is smoothed in; 4898 in the subgroups of one window;

@@ -1,15 +1,13 @@
 -- The calls that a user would make for windows back to back, in turn. proofs/Observed.antt shows that they come to the definition in Observe.antt.
 use Rattle.std.specs.Prelude.{List, ℕ, zero, suc, ℤ, replicate}
 use Rattle.refusals.specs.Answers.{unless_refused}
-use Rattle.rows.specs.Rows.{refused_row}
-use Rattle.rows.specs.declared.RowAnswer.{RowAnswer}
+use Rattle.rows.specs.Rows.{RowAnswer, refused_row}
 use Rattle.rows.specs.declared.Setup.{Setup}
 use Rattle.spectral_lines.specs.Line.{line_count}
 use Rattle.spectrum.specs.Spectrum.{spectrum_refusal, spectrum_exit}
 use Rattle.kinds.specs.declared.Kind.{Kind}
 use Rattle.records.specs.declared.Observation.{Observation}
-use Rattle.observation.specs.declared.RecordAnswer.{RecordAnswer}
-use Rattle.observation.specs.Calls.{fresh_answer, add_row_answer}
+use Rattle.observation.specs.Calls.{RecordAnswer, fresh_answer, add_row_answer}
 use Rattle.groups.specs.Group.{group_row_answer}
 use Rattle.observe.specs.Observe.{window_start}
 

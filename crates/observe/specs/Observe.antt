@@ -10,9 +10,8 @@ use Rattle.rows.specs.declared.Row.{Row}
 use Rattle.windows.specs.Window.{window_length, window_at}
 use Rattle.windows.specs.Checks.{short_check, range_check}
 use Rattle.kinds.specs.declared.Kind.{Kind}
-use Rattle.observation.specs.declared.RecordAnswer.{RecordAnswer}
 use Rattle.records.specs.Soundness.{most_windows}
-use Rattle.observation.specs.Calls.{empty_record, refused_record}
+use Rattle.observation.specs.Calls.{RecordAnswer, empty_record, refused_record}
 use Rattle.observation.specs.RecordAfter.{record_after}
 use Rattle.groups.specs.Group.{window_row}
 

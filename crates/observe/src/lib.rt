@@ -3,44 +3,29 @@
 #![tactic(auto)]
 
 ghost use Rattle.std.specs.Prelude.{◌≡◌};
-ghost use Rattle.observation.specs.Calls.{refused_record};
+ghost use Rattle.rows.specs.Rows.{row_answer_of};
+ghost use Rattle.observation.specs.Calls.{record_answer_of};
 ghost use Rattle.observe.specs.Observe.{observe_answer};
 ghost use Rattle.observe.specs.Calls.{row_calls};
 
 use groups::group_row;
 use kinds::Kind;
-use observation::{RecordAnswer, add_row, fresh_record};
-use refusals::NO_REFUSAL;
-use rows::{RowAnswer, Setup, refused_row, refused_setup};
+use observation::{add_row, fresh_record};
+use records::Observation;
+use refusals::Refusal;
+use rows::{Row, Setup};
 use spectral_lines::LINE_COUNT;
 use spectrum::spectrum;
 use windows::WINDOW_LENGTH;
 
 // The row of the window that begins at `at`.
-fn row_at(recording: &[i32], at: usize, setup: Setup, kind: Kind) -> RowAnswer
-    ensures { result ≡ row_calls kind setup recording.now at }
+#[tactic(auto, unfolding(crate::specs::Calls::row_calls))]
+fn row_at(recording: &[i32], at: usize, setup: Setup, kind: Kind) -> Result<Row, Refusal>
+    ensures { row_answer_of result ≡ row_calls kind setup recording.now at }
 {
     let mut lines = [0; LINE_COUNT];
-    let refusal = spectrum(recording, at, &mut lines);
-    if refusal != NO_REFUSAL {
-        return RowAnswer {
-            refusal,
-            row: refused_row(),
-        };
-    }
+    spectrum(recording, at, &mut lines)?;
     group_row(kind, setup, &lines)
-}
-
-// A refusal with the record of a refused fresh_record.
-fn refused_record(refusal: u32) -> RecordAnswer
-    ensures { result ≡ record { refusal = refusal; observation = refused_record } }
-{
-    let fresh = fresh_record(refused_setup());
-    let observation = fresh.observation;
-    RecordAnswer {
-        refusal,
-        observation,
-    }
 }
 
 // The record after `windows` windows back to back, the first of which begins at `start`, by the
@@ -52,26 +37,13 @@ pub fn observe(
     windows: usize,
     setup: Setup,
     kind: Kind,
-) -> RecordAnswer
-    ensures { result ≡ observe_answer kind setup recording.now start windows }
+) -> Result<Observation, Refusal>
+    ensures { record_answer_of result ≡ observe_answer kind setup recording.now start windows }
 {
-    let mut answer = fresh_record(setup);
-    if answer.refusal != NO_REFUSAL {
-        return answer;
+    let mut observation = fresh_record(setup)?;
+    for i in 0..windows {
+        let row = row_at(recording, start + WINDOW_LENGTH * i, setup, kind)?;
+        observation = add_row(observation, row)?;
     }
-    let mut at = start;
-    let mut i = 0;
-    while i < windows {
-        let found = row_at(recording, at, setup, kind);
-        if found.refusal != NO_REFUSAL {
-            return refused_record(found.refusal);
-        }
-        answer = add_row(answer.observation, found.row);
-        if answer.refusal != NO_REFUSAL {
-            return refused_record(answer.refusal);
-        }
-        at += WINDOW_LENGTH;
-        i += 1;
-    }
-    answer
+    Ok(observation)
 }

@@ -2,28 +2,32 @@
 use mathlib.Core.Bool.{Bool, true, false, cond, not, ◌&&◌}
 use mathlib.Core.List.{List, ◌++◌}
 use mathlib.Core.Path.{◌≡◌, refl, sym, ap, ◌∙◌}
-use Prim.Native.Nat.{ℕ, ◌+◌, ◌-◌, ◌^◌, ◌≤◌, ◌<◌}
+use Prim.Native.Nat.{ℕ, ◌+◌, ◌-◌, ◌%◌, ◌^◌, ◌≤◌, ◌<◌}
+use native.Mathlib.Nat.{mod-eq_of_lt}
 use native.Mathlib.Decide.{dec_lt}
 use native.Mathlib.Omega.{arith}
 use borrow.Author.Tests.{eqb-true, not-false}
 use lib.Dec.{eqb}
 use lib.IntN.{ℤ}
-use lib.ListN.{length, take, get_or-append}
+use lib.ListN.{length, take, get_or, get_or-append}
 use lib.Seq.{get_or-take, get_or-append-add, length-take-le}
+use Rattle.std.proofs.lemmas.List.{places}
 use Rattle.square_root.specs.Root.{root_of}
 use Rattle.refusals.specs.Numbers.{no_refusal, unknown_system, unknown_edition}
 use Rattle.refusals.proofs.Answers.{no-faults, unless_refused-accepted}
 use Rattle.refusals.proofs.Appended.{first_fault-append-none}
+use Rattle.refusals.proofs.Results.{number_is_positive}
 use Rattle.rows.specs.Editions.{edition_a1}
-use Rattle.rows.specs.Orders.{is_order}
+use Rattle.rows.specs.Orders.{order_count, is_order}
 use Rattle.rows.specs.Setups.{is_setup, setup_checks}
 use Rattle.rows.specs.declared.Setup.{Setup}
 use Rattle.rows.proofs.Setups.{is_setup-known, setup-parts}
 use Rattle.rows.proofs.Systems.{system-bounds}
+use Rattle.rows.proofs.Orders.{order-of-place}
 use Rattle.spectral_lines.specs.Line.{line_count, line_limit, line_of, lines_from, lines_of}
 use Rattle.windows.specs.Window.{window_at, InRange}
 use Rattle.windows.specs.Checks.{window_checks, window_refusal}
-use Rattle.spectral_lines.specs.Calls.{lines_from_exit}
+use Rattle.spectral_lines.specs.Calls.{lines_from_refusal, lines_from_exit}
 use Rattle.windows.proofs.Accepted.{window-accepted}
 use Rattle.spectral_lines.proofs.PartAccepted.{part-accepted}
 use Rattle.spectral_lines.proofs.Lines.{length-lines_from, get_or-lines_from, get_or-lines_of, no-line-too-large}
@@ -32,11 +36,12 @@ use Rattle.kinds.specs.declared.Kind.TheVariants.{Component, HarmonicGroup}
 use Rattle.kinds.specs.declared.Span.{Span}
 use Rattle.kinds.specs.Kinds.{span_of, grouped_as, group_span}
 use Rattle.spans.specs.Spans.{weights_in, weights_of, weighted_sum, line_at}
-use Rattle.groups.specs.Group.{value_over, group_value}
+use Rattle.groups.specs.Group.{value_over, group_value, group_values}
 use Rattle.panel.specs.Panel.{panel_line_count, panel_refusal, first_line, panel_span}
 use Rattle.kinds.proofs.Bounds.{centre-bounds, span_of-bounds, group_span-bounds}
 use Rattle.spans.proofs.Weights.{weights_of-total-le, weighted_sum-moved}
 use Rattle.spans.proofs.SumBounds.{weighted_sum-lt}
+use Rattle.groups.proofs.GroupSum.{group_values-filled, window_row-accepted}
 
 -- ---- a call that is not refused
 
@@ -103,15 +108,16 @@ holds_more window first have count total buffer lines rest sum room more holds i
         ∙ get_or-lines_from (first + have) count window (i - have) (omega arith)
         ∙ ap (line_of window) number
 
--- what `lines_alone` leaves in a part of the buffer of so many lines
-pub lines-alone-left :
-    (setup : Setup) (recording : List ℤ) (start : ℕ) (buffer : List ℕ) → PanelAccepted setup recording start buffer →
-    (first count : ℕ) (part : List ℕ) → length part ≡ count → first + count ≤ line_limit →
-    lines_from_exit recording start first part ≡ lines_from first count (window_at recording start)
-unfolding lines_from_exit
-lines-alone-left setup recording start buffer accepted first count part long within =
-    unless_refused-accepted _ _ part (part-accepted recording start _ accepted.window-passed first part (rw long within))
-    ∙ ap (λ n. lines_from first n (window_at recording start)) long
+-- a part of the buffer, for a window that is accepted: the call for its lines is not refused, and leaves them there
+module _
+    (recording : List ℤ) (start first : ℕ) (part : List ℕ)
+    (passed : window_refusal recording start false ≡ no_refusal) (within : first + length part ≤ line_limit) where
+  pub part-taken : lines_from_refusal recording start first part ≡ no_refusal
+  part-taken = part-accepted recording start false passed first part within
+
+  pub part-left : lines_from_exit recording start first part ≡ lines_from first (length part) (window_at recording start)
+  unfolding lines_from_exit
+  part-left = unless_refused-accepted _ _ part part-taken
 
 module _ (setup : Setup) (h : ℕ) (known : is_setup setup ≡ true) (order : is_order h ≡ true) where
   abbrev n : ℕ
@@ -173,3 +179,50 @@ first_line-next setup h known order =
 pub first_line-end : (setup : Setup) (h : ℕ) → is_setup setup ≡ true → is_order h ≡ true → first_line setup h + (setup.system + 1) ≤ line_count
 unfolding span_of
 first_line-end setup h known order = (span_of-bounds HarmonicGroup setup.system h (setup-parts setup known).system-known order).end-le
+
+-- so is the first line of all
+pub first_line-first : (setup : Setup) → is_setup setup ≡ true → first_line setup 1 + 1 ≤ line_limit
+first_line-first setup known = omega (arith, first_line-end setup 1 known (order-of-place 0 (omega arith)))
+
+-- a group has at most 13 lines, which the buffer holds
+pub cycles-le : (setup : Setup) → is_setup setup ≡ true → setup.system + 1 ≤ panel_line_count
+cycles-le setup known = omega (arith, (system-bounds setup.system (setup-parts setup known).system-known).most)
+
+-- ---- what the code of the call rests on
+
+-- the value of an order, from a buffer that held the first line of its group, and to which the others were put after it
+pub panel-root :
+    (setup : Setup) (h : ℕ) → is_setup setup ≡ true → is_order h ≡ true →
+    (recording : List ℤ) (start : ℕ) → window_refusal recording start false ≡ no_refusal →
+    (held rest : List ℕ) → length held ≡ panel_line_count → line_at held 0 ≡ line_of (window_at recording start) (first_line setup h) →
+    let others = lines_from (first_line setup h + 1) setup.system (window_at recording start) in
+    root_of (weighted_sum (line_at (take 1 held ++ (others ++ rest))) (weights_in (panel_span setup h)) % 2 ^ 64) ≡
+    group_value HarmonicGroup setup h (lines_of (window_at recording start))
+unfolding value_over
+panel-root setup h known order recording start passed held rest room there =
+    let window = window_at recording start in
+    let first = first_line setup h in
+    let in-range = (window-accepted recording start false passed).in-range in
+    let holds = holds_more window first 1 setup.system (setup.system + 1) held _ rest (omega arith) (omega arith) refl
+    (λ i below.
+    let zeroth : i ≡ 0 = omega arith in
+    let here : first + 0 ≡ first = omega arith in
+    rw (zeroth, here) there) in
+    rw (mod-eq_of_lt (panel-sum-lt setup h known order window _ holds in-range)) (panel-value setup h known order window _ holds)
+
+-- 40 numbers that are the values of their orders are those of the window's row
+pub panel-values :
+    (setup : Setup) (recording : List ℤ) (start : ℕ) (values : List ℕ) →
+    is_setup setup ≡ true → window_refusal recording start false ≡ no_refusal → length values ≡ order_count →
+    ((i : ℕ) → i < order_count → get_or values i 0 ≡ group_value HarmonicGroup setup (i + 1) (lines_of (window_at recording start))) →
+    values ≡ group_values HarmonicGroup setup (lines_of (window_at recording start))
+panel-values setup recording start values known passed orders each =
+    let window = window_at recording start in
+    let in-range = (window-accepted recording start false passed).in-range in
+    group_values-filled HarmonicGroup setup (lines_of window) values (window_row-accepted setup window known in-range.samples) orders each
+
+-- the steps of an order's group
+pub ruleset group_steps = (cycles-le, first_line-end, first_line-next, part-taken, part-left, get_or-lines_from, number_is_positive, places)
+
+-- the steps of the row
+pub ruleset row_steps = (group_steps, order-of-place, first_line-first, panel-values)

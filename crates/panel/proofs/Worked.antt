@@ -5,13 +5,11 @@ use mathlib.Core.Path.{◌≡◌, refl}
 use Prim.Native.Nat.{ℕ, ◌-◌, ◌^◌}
 use lib.IntN.{ℤ, pos, negsuc}
 use lib.ListN.{replicate}
-use Rattle.algebra.specs.Lists.{any_of}
 use Rattle.rows.specs.Editions.{is_edition}
-use Rattle.rows.specs.Rows.{refused_row}
+use Rattle.rows.specs.Rows.{refused_row, RowAnswer}
 use Rattle.rows.specs.Setups.{setup_of}
 use Rattle.rows.specs.Systems.{is_system}
 use Rattle.rows.specs.declared.Setup.{Setup}
-use Rattle.rows.specs.declared.RowAnswer.{RowAnswer}
 use Rattle.windows.specs.Window.{window_at, out_of_range}
 use Rattle.kinds.specs.declared.Span.{Span}
 use Rattle.kinds.specs.Kinds.{span_of, grouped_as}
@@ -78,11 +76,11 @@ called c =
     (panel_refusal c.setup c.recording c.start (sevens c), panel_exit c.setup c.recording c.start (sevens c))
 
 taken-worked : map called taken ≡ map (λ c. (c.refusal, replicate 13 0)) taken
-unfolding panel_refusal panel_exit is_system is_edition window_at out_of_range any_of
+unfolding panel_refusal panel_exit is_system is_edition window_at out_of_range
 taken-worked = refl
 
 refused-worked : map called refused ≡ map (λ c. (c.refusal, sevens c)) refused
-unfolding panel_refusal panel_exit is_system is_edition window_at out_of_range any_of
+unfolding panel_refusal panel_exit is_system is_edition window_at out_of_range
 refused-worked = refl
 
 -- a refused row: 40 zeros of system 10 and edition 2, whatever was asked
@@ -90,7 +88,7 @@ refused_answer : ℕ → RowAnswer
 refused_answer refusal = record { refusal = refusal; row = record { setup = setup_of 10 0; values = replicate 40 0 } }
 
 refused-rows-worked : map (λ c. panel_answer c.setup c.recording c.start (sevens c)) refused ≡ map (λ c. refused_answer c.refusal) refused
-unfolding panel_answer panel_refusal is_system is_edition window_at out_of_range any_of refused_row refused_answer
+unfolding panel_answer panel_refusal is_system is_edition window_at out_of_range refused_row refused_answer
 refused-rows-worked = refl
 
 -- where the lines of an order stand in the buffer: the number of the first line, and the span from it on

@@ -3,8 +3,7 @@ use Rattle.std.specs.Prelude.{Bool, not, List, ◌++◌, ℕ, ◌-◌, eqb, ℤ,
 use Rattle.refusals.specs.Answers.{first_fault, unless_refused}
 use Rattle.rows.specs.Setups.{setup_checks}
 use Rattle.rows.specs.declared.Setup.{Setup}
-use Rattle.rows.specs.Rows.{refused_row}
-use Rattle.rows.specs.declared.RowAnswer.{RowAnswer}
+use Rattle.rows.specs.Rows.{refused_row, RowAnswer}
 use Rattle.windows.specs.Window.{window_at}
 use Rattle.windows.specs.Checks.{window_checks}
 use Rattle.kinds.specs.declared.Kind.TheVariants.{HarmonicGroup}

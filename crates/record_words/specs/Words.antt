@@ -1,10 +1,11 @@
 -- An observation record (document 01, "The observation record"; its edition and its latest
 -- rows, document 02, cards 7 and 8) as words that a caller keeps.
-use Rattle.std.specs.Prelude.{cond, ◌≡◌, List, [], ◌∷◌, map, ℕ, ◌/◌, min, ◌<◌, eqb, length, get_or, take}
+use Rattle.std.specs.Prelude.{cond, ◌≡◌, List, [], ◌∷◌, map, ℕ, ◌/◌, min, ◌<◌, eqb, length, get_or, take, Result, Ok, Err}
 use Rattle.rows.specs.Orders.{order_count}
 use Rattle.rows.specs.Rows.{largest_value}
 use Rattle.rows.specs.Setups.{setup_of}
 use Rattle.records.specs.declared.Observation.{Observation}
+use Rattle.exported_answers.specs.declared.CallRefusal.{CallRefusal}
 use Rattle.latest_rows.specs.Latest.{values_kept}
 use Rattle.record_words.specs.Halves.{half_base, packed, unpacked}
 use Rattle.record_words.specs.Parts.{parts_from, total}
@@ -76,3 +77,8 @@ pub record Whole (o : Observation) : Type 0 where
 -- some words after a record is put into them: its own where there are as many, and else what they were
 unfoldable pub words_with : Observation → List ℕ → List ℕ
 words_with o words = cond (eqb (length words) record_words) (words_of o) words
+
+-- what lent words hold after a call for a record: those of the record, or what was there
+abbrev pub words_left : Result Observation CallRefusal → List ℕ → List ℕ
+words_left (Ok o) words = words_with o words
+words_left (Err refusal) words = words

@@ -14,23 +14,18 @@ use latest_rows::VALUES_KEPT;
 use records::Observation;
 use rows::{LARGEST_VALUE, ORDER_COUNT, Setup};
 
-// The word at a place, 0 past the last.
+// The word at a place, 0 past the last: `lists::number_at` at 64 bits; one function for both would have to be handed the 0.
 fn word_at(words: &[u64], place: usize) -> u64
     ensures { result ≡ get_or words.now place 0 }
 {
-    if place < words.len() { words[place] } else { 0 }
+    words.get(place).copied().unwrap_or(0)
 }
 
 // The word at a place as a number of 32 bits, the largest of them where it has more.
 fn count_at(words: &[u64], place: usize) -> u32
     ensures { result ≡ min (get_or words.now place 0) largest_value }
 {
-    let word = word_at(words, place);
-    if word <= LARGEST_VALUE {
-        word as u32
-    } else {
-        LARGEST_VALUE as u32
-    }
+    word_at(words, place).min(LARGEST_VALUE) as u32
 }
 
 // Fills the values of the latest rows with the halves of the words from a place on.
@@ -39,12 +34,10 @@ fn fill_halves(words: &[u64], place: usize, values: &mut [u32; VALUES_KEPT])
     requires values_len { length values.old ≡ values_kept }
     ensures { values.new ≡ unpacked (words_from place latest_words words.now) }
 {
-    let mut k = 0;
-    while k < LATEST_WORDS {
+    for k in 0..LATEST_WORDS {
         let word = word_at(words, place + k);
         values[2 * k] = (word % HALF_BASE) as u32;
         values[2 * k + 1] = (word / HALF_BASE) as u32;
-        k += 1;
     }
 }
 
@@ -65,12 +58,10 @@ pub fn read_record(words: &[u64]) -> Observation
         peak: [0; ORDER_COUNT],
         latest: [0; VALUES_KEPT],
     };
-    let mut i = 0;
-    while i < ORDER_COUNT {
+    for i in 0..ORDER_COUNT {
         read.smoothed[i] = word_at(words, SMOOTHED_PLACE + i);
         read.sum[i] = word_at(words, SUM_PLACE + i);
         read.peak[i] = word_at(words, PEAK_PLACE + i);
-        i += 1;
     }
     fill_halves(words, LATEST_PLACE, &mut read.latest);
     read

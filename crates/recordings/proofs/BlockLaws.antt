@@ -1,10 +1,11 @@
 -- What a block gives a reading, a law for each way: the reading is refused, the block is empty, a line is refused, the block is short, the block is a whole window.
 use mathlib.Core.List.{List}
-use mathlib.Core.Path.{◌≡◌}
-use Prim.Native.Nat.{ℕ, ◌+◌, ◌*◌, ◌/◌, ◌≤◌, ◌<◌}
+use mathlib.Core.Path.{◌≡◌, refl}
+use Prim.Native.Nat.{ℕ, ◌+◌, ◌/◌, ◌≤◌, ◌<◌}
 use native.Mathlib.Decide.{dec_le}
 use native.Mathlib.Omega.{arith}
 use borrow.Author.Tests.{eq-eqb, ne_eqb, lt-ltb, le-ltb, ltb-false}
+use lib.IntN.{ℤ}
 use lib.ListN.{length}
 use lib.Seq.{length-take-le, take_all}
 use Rattle.refusals.specs.Numbers.{no_refusal, short_window}
@@ -14,6 +15,9 @@ use Rattle.refusals.proofs.Answers.{no-fault}
 use Rattle.recordings.specs.declared.Reading.{Reading}
 use Rattle.recordings.specs.TextLines.{text_line_bytes, text_line_count}
 use Rattle.recordings.specs.Blocks.{window_bytes, text_lines_refusal, block_lines, block_refusal, samples_of, refused_with, window_taken, block_of}
+use Rattle.spectral_lines.specs.Line.{lines_of}
+use Rattle.groups.specs.Group.{window_row}
+use Rattle.recordings.specs.Steps.{lines_taken}
 use Rattle.recordings.proofs.FirstOf.{no-earlier}
 
 pub block_lines-whole : (block : List ℕ) → window_bytes ≤ length block → block_lines block ≡ window_length
@@ -24,15 +28,13 @@ pub block_lines-short : (block : List ℕ) → length block < window_bytes → b
 unfolding block_lines text_line_count
 block_lines-short block h = rw (take_all window_bytes block (omega arith))
 
--- so many lines begin in the block, and a window has no more
-pub block_lines-fit : (block : List ℕ)
-    → (block_lines block ≤ window_length) × (text_line_bytes * block_lines block < length block + text_line_bytes)
-block_lines-fit block = by_length (dec_le window_bytes (length block))
+-- a window has no more
+pub block_lines-le : (block : List ℕ) → block_lines block ≤ window_length
+block_lines-le block = by_length (dec_le window_bytes (length block))
   where
-    by_length : Dec (window_bytes ≤ length block)
-        → (block_lines block ≤ window_length) × (text_line_bytes * block_lines block < length block + text_line_bytes)
-    by_length (yes h) = rw (block_lines-whole block h) (omega arith, omega arith)
-    by_length (no f) = let h : length block < window_bytes = omega arith in rw (block_lines-short block h) (omega arith, omega arith)
+    by_length : Dec (window_bytes ≤ length block) → block_lines block ≤ window_length
+    by_length (yes h) = rw (block_lines-whole block h) (omega arith)
+    by_length (no f) = let h : length block < window_bytes = omega arith in rw (block_lines-short block h) (omega arith)
 
 -- a block that is not refused is a whole window, and none of its lines is refused
 pub block_refusal-none : (block : List ℕ) → block_refusal block ≡ no_refusal
@@ -72,3 +74,8 @@ module _ (reading : Reading) (block : List ℕ) where
         block_of-whole h =
             let first = text_lines_refusal block (block_lines block) in
             rw (eq-eqb reading.refusal no_refusal goes_on, ne_eqb (length block) 0 some, eq-eqb first no_refusal none, le-ltb (length block) window_bytes h)
+
+-- a window by its samples, and by their spectral lines
+pub lines_taken_is : (reading : Reading) (window : List ℤ) → lines_taken reading (lines_of window) ≡ window_taken reading window
+unfolding lines_taken window_taken window_row
+lines_taken_is reading window = refl

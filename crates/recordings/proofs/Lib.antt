@@ -3,6 +3,7 @@ pub mod FirstOf
 pub mod NumberOnLine
 pub mod Samples
 pub mod BlockLaws
+pub mod BlockSamples
 pub mod WindowAdded
 pub mod FirstLine
 pub mod WindowLines

@@ -1,63 +1,50 @@
--- The number on a line of a text, as the reader finds it: the line is cut off, or has no newline at its end, or has a column.
+-- The number on a line of a text, as the reader finds it: what stands before a newline at its end is read as a column, and a text without one has none.
+use mathlib.Core.Bool.{and-false}
 use mathlib.Core.List.{List}
-use mathlib.Core.Option.{none}
-use mathlib.Core.Path.{◌≡◌, sym, ◌∙◌}
-use Prim.Native.Nat.{ℕ, ◌+◌, ◌-◌, ◌*◌, ◌<◌, ◌≤◌}
+use mathlib.Core.Path.{◌≡◌}
+use Prim.Native.Nat.{ℕ, ◌-◌, ◌*◌, ◌<◌}
+use native.Mathlib.Decide.{ℕ_discrete}
 use native.Mathlib.Omega.{arith}
 use borrow.Author.Tests.{eq-eqb, ne_eqb}
-use lib.ListN.{length, get_or, take, drop, length-drop}
-use lib.Seq.{take-take, get_or-take, get_or-drop, length-take-le, take_all}
+use lib.ListN.{length, get_or, take, drop, length-take, length-drop}
+use Rattle.std.specs.Prelude.{None}
 use Rattle.columns.specs.Text.{newline}
-use Rattle.columns.specs.Column.{column_number}
 use Rattle.columns.specs.Calls.{column_width, reading_of, column_read_answer}
 use Rattle.recordings.specs.TextLines.{text_line_bytes, text_line_at, text_line_number}
 
-module _ (text : List ℕ) (i : ℕ) where
-  abbrev rest : List ℕ
-  rest = drop (text_line_bytes * i) text
+pub text_line_number_ended :
+    (line : List ℕ) → get_or line (length line - 1) 0 ≡ newline →
+    reading_of (text_line_number line) ≡ column_read_answer (take (length line - 1) line)
+unfolding text_line_number column_read_answer
+text_line_number_ended line ends = by_length (ℕ_discrete (length line) text_line_bytes)
+  where
+    by_length : Dec (length line ≡ text_line_bytes) → reading_of (text_line_number line) ≡ column_read_answer (take (length line - 1) line)
+    by_length (yes e) =
+        let before : length line - 1 ≡ column_width = omega arith in
+        let byte : get_or line column_width 0 ≡ newline = rw before at ends in
+        let long : length (take column_width line) ≡ column_width = simp length-take (omega arith) in
+        rw (before, eq-eqb (length line) text_line_bytes e, eq-eqb (get_or line column_width 0) newline byte, eq-eqb (length (take column_width line)) column_width long)
+    by_length (no f) =
+        let other : length (take (length line - 1) line) ≡ column_width → ⊥ = λ e. f (omega (arith, length-take (length line - 1) line)) in
+        rw (ne_eqb (length line) text_line_bytes f, ne_eqb (length (take (length line - 1) line)) column_width other)
 
-  length-of-cut : length text - text_line_bytes * i < text_line_bytes → length (take text_line_bytes rest) ≡ text_line_bytes → ⊥
-  length-of-cut h e =
-      let all = take_all text_line_bytes rest (rw (length-drop (text_line_bytes * i) text) (omega arith)) in
-      let short : length rest ≡ text_line_bytes = rw all at e in
-      omega (arith, length-drop (text_line_bytes * i) text)
+pub text_line_number_other : (line : List ℕ) → (get_or line (length line - 1) 0 ≡ newline → ⊥) → text_line_number line ≡ None
+unfolding text_line_number
+text_line_number_other line other = by_length (ℕ_discrete (length line) text_line_bytes)
+  where
+    by_length : Dec (length line ≡ text_line_bytes) → text_line_number line ≡ None
+    by_length (yes e) =
+        let before : length line - 1 ≡ column_width = omega arith in
+        let byte : get_or line column_width 0 ≡ newline → ⊥ = rw before at other in
+        rw (ne_eqb (get_or line column_width 0) newline byte, and-false)
+    by_length (no f) = rw (ne_eqb (length line) text_line_bytes f)
 
-  pub text_line_number-cut : length text - text_line_bytes * i < text_line_bytes → text_line_number (text_line_at text i) ≡ none
-  unfolding text_line_number text_line_at
-  text_line_number-cut h = rw (ne_eqb (length (take text_line_bytes rest)) text_line_bytes (length-of-cut h))
-
-  module _ (fits : text_line_bytes ≤ length text - text_line_bytes * i) where
-    length-of-line : length (take text_line_bytes rest) ≡ text_line_bytes
-    length-of-line = length-take-le text_line_bytes rest (rw (length-drop (text_line_bytes * i) text) fits)
-
-    last_byte : get_or (take text_line_bytes rest) column_width 0 ≡ get_or text (text_line_bytes * i + column_width) 0
-    last_byte = get_or-take text_line_bytes rest column_width 0 (omega arith) ∙ get_or-drop (text_line_bytes * i) text column_width 0
-
-    pub text_line_number-no-newline : (get_or text (text_line_bytes * i + column_width) 0 ≡ newline → ⊥)
-        → text_line_number (text_line_at text i) ≡ none
-    unfolding text_line_number text_line_at
-    text_line_number-no-newline f =
-        rw (
-          eq-eqb (length (take text_line_bytes rest)) text_line_bytes length-of-line,
-          ne_eqb (get_or (take text_line_bytes rest) column_width 0) newline (λ e. f (sym last_byte ∙ e)),
-        )
-
-    pub text_line_number-column : get_or text (text_line_bytes * i + column_width) 0 ≡ newline
-        → text_line_number (text_line_at text i) ≡ column_number (take column_width rest)
-    unfolding text_line_number text_line_at
-    text_line_number-column e =
-        rw (
-          eq-eqb (length (take text_line_bytes rest)) text_line_bytes length-of-line,
-          eq-eqb (get_or (take text_line_bytes rest) column_width 0) newline (last_byte ∙ e),
-          take-take column_width text_line_bytes rest (omega arith),
-        )
-
-    -- what the call that reads a column answers for the line's column
-    pub column_read_answer-text-line : column_read_answer (take (text_line_bytes * i + column_width - text_line_bytes * i) rest)
-        ≡ reading_of (column_number (take column_width rest))
-    unfolding column_read_answer
-    column_read_answer-text-line =
-        let width : text_line_bytes * i + column_width - text_line_bytes * i ≡ column_width = omega arith in
-        let long : length (take column_width rest) ≡ column_width =
-        length-take-le column_width rest (rw (length-drop (text_line_bytes * i) text) (omega arith)) in
-        rw (width, eq-eqb (length (take column_width rest)) column_width long)
+-- a line that is cut off has none
+pub text_line_number-cut :
+    (text : List ℕ) (i : ℕ) → length text - text_line_bytes * i < text_line_bytes → text_line_number (text_line_at text i) ≡ None
+unfolding text_line_number text_line_at
+text_line_number-cut text i h =
+    let rest = drop (text_line_bytes * i) text in
+    let short : length (take text_line_bytes rest) ≡ text_line_bytes → ⊥ =
+    λ e. omega (arith, length-take text_line_bytes rest, length-drop (text_line_bytes * i) text) in
+    rw (ne_eqb (length (take text_line_bytes rest)) text_line_bytes short)

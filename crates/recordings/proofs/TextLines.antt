@@ -1,4 +1,5 @@
 -- The lines of a text that is put together from two: those of the first part and those after it, and what is read of them.
+use Rattle.std.specs.Prelude.{is_none}
 use mathlib.Core.Bool.{Bool, true, false, cond}
 use mathlib.Core.List.{List, ◌++◌}
 use mathlib.Core.Path.{◌≡◌, refl, ap}
@@ -16,7 +17,7 @@ use Rattle.records.specs.Soundness.{most_windows}
 use Rattle.observation.specs.Calls.{fresh_answer}
 use Rattle.observation.specs.RecordAfter.{record_after}
 use Rattle.recordings.specs.TextLines.{text_line_bytes, text_line_at, text_line_number, number_or0, number_at}
-use Rattle.recordings.specs.InputRefusal.{is_none, number_refusal, text_line_refusal, refusal_before}
+use Rattle.recordings.specs.InputRefusal.{number_refusal, text_line_refusal, refusal_before}
 use Rattle.rows.specs.Editions.{edition2}
 use Rattle.rows.specs.Setups.{setup_of}
 use Rattle.recordings.specs.Windows.{system_in, setup_in, window_in, rows_in, record_in}
@@ -27,12 +28,12 @@ use Rattle.recordings.proofs.FirstOf.{first_of-same}
 abbrev pub lines_to : ℕ → ℕ
 lines_to w = window_length * w + 1
 
-tabulate-agree {ℓ} : {A : Type ℓ} (n : ℕ) (f g : ℕ → A) → ((i : ℕ) → i < n → f i ≡ g i) → tabulate n f ≡ tabulate n g
+pub tabulate-agree {ℓ} : {A : Type ℓ} (n : ℕ) (f g : ℕ → A) → ((i : ℕ) → i < n → f i ≡ g i) → tabulate n f ≡ tabulate n g
 unfolding tabulate
 tabulate-agree zero f g h = refl
 tabulate-agree (suc n) f g h = rw (tabulate-agree n f g (λ i l. h i (omega arith)), h n (omega arith))
 
-number_at-same : (t u : List ℕ) (i j : ℕ) → text_line_at t i ≡ text_line_at u j → number_at t i ≡ number_at u j
+pub number_at-same : (t u : List ℕ) (i j : ℕ) → text_line_at t i ≡ text_line_at u j → number_at t i ≡ number_at u j
 unfolding number_at
 number_at-same t u i j e = rw e
 

@@ -12,7 +12,7 @@ use Rattle.refusals.specs.Numbers.{no_refusal, not_a_column, largest_refusal}
 use Rattle.windows.specs.Window.{window_length}
 use Rattle.records.specs.Soundness.{most_windows}
 use Rattle.recordings.specs.TextLines.{text_line_bytes, text_line_at, text_line_number}
-use Rattle.recordings.specs.InputRefusal.{is_none, number_checks, number_refusal, text_line_refusal, first_of, refusal_before}
+use Rattle.recordings.specs.InputRefusal.{number_checks, number_refusal, text_line_refusal, first_of, refusal_before}
 use Rattle.recordings.specs.Blocks.{window_bytes, sample_checks, sample_refusal, text_lines_refusal}
 use Rattle.refusals.proofs.Answers.{first_fault-le}
 use Rattle.recordings.proofs.FirstOf.{first_of-after-none, first_of-stays, first_of-same, first_of-with-last, first_of-le, first_of-none-at}
@@ -30,7 +30,7 @@ no-further (suc x) = rw (ne_eqb (suc x) no_refusal (λ e. omega arith))
 -- a line that is cut off is refused
 sample_refusal-cut : (block : List ℕ) (i : ℕ) → length block - text_line_bytes * i < text_line_bytes
     → sample_refusal (text_line_at block i) ≡ not_a_column
-unfolding sample_refusal is_none
+unfolding sample_refusal
 sample_refusal-cut block i h = rw (text_line_number-cut block i h)
 
 module _ (p q : List ℕ) (w : ℕ) (long : length p ≡ text_line_bytes * lines_to w) where

@@ -1,6 +1,6 @@
 -- What the calls answer that read an input a block at a time: `begin` takes the first line, `take_block` the lines of one window.
 -- That they follow the definition of what harmlist writes is stated in specs/Follows.antt.
-use Rattle.std.specs.Prelude.{Bool, cond, not, ◌||◌, List, [], ◌∷◌, ℕ, ◌*◌, eqb, ltb, ℤ, length, take, replicate}
+use Rattle.std.specs.Prelude.{Bool, cond, not, ◌||◌, List, [], ◌∷◌, ℕ, ◌*◌, eqb, ltb, ℤ, is_none, length, take, replicate}
 use Rattle.algebra.specs.Lists.{tabulate}
 use Rattle.refusals.specs.Numbers.{no_refusal, short_window, sample_out_of_range, not_a_column}
 use Rattle.refusals.specs.Answers.{first_fault, unless_refused}
@@ -10,7 +10,7 @@ use Rattle.rows.specs.Orders.{order_count}
 use Rattle.observation.specs.Calls.{empty_record, refused_record, add_row_answer}
 use Rattle.recordings.specs.declared.Reading.{Reading}
 use Rattle.recordings.specs.TextLines.{text_line_bytes, text_line_count, text_line_at, text_line_number, number_or0, number_at}
-use Rattle.recordings.specs.InputRefusal.{is_none, text_line_refusal, first_of}
+use Rattle.recordings.specs.InputRefusal.{text_line_refusal, first_of}
 use Rattle.recordings.specs.Windows.{setup_in}
 use Rattle.groups.specs.Group.{window_row}
 

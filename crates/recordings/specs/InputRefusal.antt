@@ -1,6 +1,5 @@
 -- The refusal of an input: the first of its lines in input order, or that of its end (document 01, "Columns and the listing").
-use Rattle.std.specs.Prelude.{Bool, true, false, cond, not, ◌&&◌, List, [], ◌∷◌, ℕ, zero, suc, ◌+◌, ◌-◌, ◌*◌, ◌%◌, eqb, ℤ, pos, negsuc}
-use Rattle.std.proofs.Math.Option.{Option, none, some}
+use Rattle.std.specs.Prelude.{Bool, true, cond, not, ◌&&◌, List, [], ◌∷◌, ℕ, zero, suc, ◌+◌, ◌-◌, ◌*◌, ◌%◌, eqb, ℤ, pos, negsuc, Option, is_none}
 use Rattle.refusals.specs.Numbers.{no_refusal, not_a_column, unknown_system, sample_out_of_range, record_full, no_window, short_window}
 use Rattle.refusals.specs.Answers.{first_fault}
 use Rattle.windows.specs.Window.{window_length, out_of_range}
@@ -12,11 +11,6 @@ use Rattle.recordings.specs.TextLines.{text_line_count, text_line_at, text_line_
 unfoldable pub no_system : ℤ → Bool
 no_system (pos n) = not (is_system n)
 no_system (negsuc n) = true
-
--- there is no number on the line
-unfoldable pub is_none : Option ℤ → Bool
-is_none none = true
-is_none (some z) = false
 
 -- "13 for another line (also one without its newline) .., 1, 3, 9 at the last line of window 45,001, and two on one line in
 -- that order": by the number on a line and the line's place; line 0 has the system, line i the i-th sample

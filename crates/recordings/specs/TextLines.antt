@@ -1,6 +1,5 @@
 -- The lines of a recording's text (document 01, "Columns and the listing"): "a line with the system, then one line per sample, windows back to back; a line is one 8-byte column and a newline".
-use Rattle.std.specs.Prelude.{cond, ◌&&◌, List, ℕ, ◌+◌, ◌*◌, ◌/◌, eqb, ℤ, pos, length, get_or, take, drop}
-use Rattle.std.proofs.Math.Option.{Option, none, some}
+use Rattle.std.specs.Prelude.{cond, ◌&&◌, List, ℕ, ◌+◌, ◌*◌, ◌/◌, eqb, ℤ, pos, Option, None, Some, length, get_or, take, drop}
 use Rattle.columns.specs.Text.{newline}
 use Rattle.columns.specs.Column.{column_number}
 use Rattle.columns.specs.Calls.{column_width}
@@ -24,12 +23,12 @@ text_line_number line =
     cond
     (eqb (length line) text_line_bytes && eqb (get_or line column_width 0) newline)
     (column_number (take column_width line))
-    none
+    None
 
 -- the number, 0 where there is none
 unfoldable pub number_or0 : Option ℤ → ℤ
-number_or0 none = pos 0
-number_or0 (some z) = z
+number_or0 None = pos 0
+number_or0 (Some z) = z
 
 unfoldable pub number_at : List ℕ → ℕ → ℤ
 number_at text i = number_or0 (text_line_number (text_line_at text i))

@@ -1,66 +1,43 @@
 // The lines of a text: a column of 8 bytes and a newline each.
-ghost use Rattle.std.specs.Prelude.{◌≡◌, ◌+◌, ◌*◌, ◌≤◌, ◌<◌, length};
-ghost use Rattle.columns.specs.Calls.{reading_of};
-ghost use Rattle.recordings.specs.TextLines.{text_line_bytes, text_line_at, text_line_number};
+ghost use Rattle.std.specs.Prelude.{◌≡◌, ◌≤◌, length};
+ghost use Rattle.refusals.specs.Answers.{refusal_of};
+ghost use Rattle.columns.specs.Calls.{reading_of, number_answer_of};
+ghost use Rattle.recordings.specs.TextLines.{text_line_count, text_line_number};
 ghost use Rattle.recordings.specs.Steps.{sample_on, ReadInto};
 
 use crate::LINE_BYTES;
 use column_reading::read_column;
-use columns::{COLUMN_WIDTH, NEWLINE, NumberAnswer};
-use refusals::{NO_REFUSAL, NOT_A_COLUMN, SAMPLE_OUT_OF_RANGE};
+use refusals::{Refusal, refuse_if};
 use windows::out_of_range;
 
-// The number on a line of the text, counted from 0, or 13.
-pub(crate) fn number_on_line(text: &[u8], line: usize) -> NumberAnswer
-    requires { text_line_bytes * line ≤ length text.now }
-    ensures { result ≡ reading_of (text_line_number (text_line_at text.now line)) }
+// The number on a line, or 13.
+#[tactic(auto, using(crate::proofs::NumberOnLine::text_line_number_ended, crate::proofs::NumberOnLine::text_line_number_other), unfolding(crate::specs::TextLines::text_line_number))]
+pub(crate) fn number_on(line: &[u8]) -> Result<i64, Refusal>
+    ensures { number_answer_of result ≡ reading_of (text_line_number line.now) }
 {
-    let start = LINE_BYTES * line;
-    if text.len() - start < LINE_BYTES {
-        return NumberAnswer {
-            refusal: NOT_A_COLUMN,
-            value: 0,
-        };
+    match line {
+        [column @ .., b'\n'] => read_column(column),
+        _ => Err(Refusal::NotAColumn),
     }
-    let end = start + COLUMN_WIDTH;
-    if text[end] != NEWLINE {
-        return NumberAnswer {
-            refusal: NOT_A_COLUMN,
-            value: 0,
-        };
-    }
-    read_column(&text[start..end])
 }
 
-// The sample on a line of the text, or 13, or 3.
-fn sample_on_line(text: &[u8], line: usize) -> NumberAnswer
-    requires { text_line_bytes * line ≤ length text.now }
-    ensures { result ≡ sample_on (text_line_at text.now line) }
+// The sample on a line, or 13, or 3.
+#[tactic(auto, unfolding(crate::specs::Steps::sample_on, crate::specs::Blocks::sample_refusal, crate::specs::TextLines::number_or0, windows::specs::Window::out_of_range))]
+fn sample_on(line: &[u8]) -> Result<i32, Refusal>
+    ensures { number_answer_of result ≡ sample_on line.now }
 {
-    let number = number_on_line(text, line);
-    if out_of_range(number.value) {
-        return NumberAnswer {
-            refusal: SAMPLE_OUT_OF_RANGE,
-            value: 0,
-        };
-    }
-    number
+    let number = number_on(line)?;
+    refuse_if(out_of_range(number), Refusal::SampleOutOfRange)?;
+    Ok(number as i32)
 }
 
-// Reads the samples on the first lines of the block, and answers the first refusal.
-pub(crate) fn read_samples(block: &[u8], count: usize, samples: &mut [i32]) -> u32
-    requires count_in_bounds { count ≤ length samples.old }
-    requires count_in_bounds_2 { text_line_bytes * count < length block.now + text_line_bytes }
-    ensures { ReadInto block.now count samples.old result samples.new }
+// Reads the samples on the lines of a text to the front of a list, up to the first line that is refused: 13, or 3.
+pub(crate) fn read_samples(text: &[u8], samples: &mut [i32]) -> Result<(), Refusal>
+    requires { text_line_count text.now ≤ length samples.old }
+    ensures { ReadInto text.now samples.old (refusal_of result) samples.new }
 {
-    let mut line = 0;
-    while line < count {
-        let sample = sample_on_line(block, line);
-        if sample.refusal != NO_REFUSAL {
-            return sample.refusal;
-        }
-        samples[line] = sample.value as i32;
-        line += 1;
+    for (i, line) in text.chunks(LINE_BYTES).enumerate() {
+        samples[i] = sample_on(line)?;
     }
-    NO_REFUSAL
+    Ok(())
 }

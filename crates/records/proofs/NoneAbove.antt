@@ -7,17 +7,18 @@ use native.Mathlib.Omega.{arith}
 use borrow.Author.Tests.{not-true, ltb-false, le-ltb}
 use lib.Dec.{ltb}
 use lib.ListN.{length, get_or}
-use Rattle.algebra.specs.Lists.{tabulate, any_of}
-use Rattle.algebra.proofs.Lists.{length-tabulate, get_or-tabulate, any_of-none, any_of-false}
+use Rattle.algebra.specs.Lists.{tabulate}
+use Rattle.std.specs.List.{list_any}
+use Rattle.algebra.proofs.Lists.{length-tabulate, get_or-tabulate, list_any-none, list_any-false}
 use Rattle.records.specs.Soundness.{none_above}
 
 -- no number at any place is above the limit; past the end the places hold 0
 pub get_or-le-of-none-above : (limit : ℕ) (values : List ℕ) (i : ℕ) → none_above limit values ≡ true → get_or values i 0 ≤ limit
-unfolding none_above any_of
+unfolding none_above
 get_or-le-of-none-above limit [] i e = omega arith
 get_or-le-of-none-above limit (x ∷ xs) zero e =
-    ltb-false limit x (any_of-none (ltb limit) (x ∷ xs) 0 0 (not-true _ e) (omega arith))
-get_or-le-of-none-above limit (x ∷ xs) (suc i) e = get_or-le-of-none-above limit xs i (rest (ltb limit x) (any_of (ltb limit) xs) e)
+    ltb-false limit x (list_any-none (ltb limit) (x ∷ xs) 0 0 (not-true _ e) (omega arith))
+get_or-le-of-none-above limit (x ∷ xs) (suc i) e = get_or-le-of-none-above limit xs i (rest (ltb limit x) (list_any (ltb limit) xs) e)
   where
     rest : (a b : Bool) → not (a || b) ≡ true → not b ≡ true
     rest true b p = absurd (mathlib.Core.Bool.true≢false (mathlib.Core.Path.sym p))
@@ -26,7 +27,7 @@ get_or-le-of-none-above limit (x ∷ xs) (suc i) e = get_or-le-of-none-above lim
 pub none-above-of-get_or-le : (limit : ℕ) (values : List ℕ) → ((i : ℕ) → i < length values → get_or values i 0 ≤ limit) → none_above limit values ≡ true
 unfolding none_above
 none-above-of-get_or-le limit values h =
-    ap not (any_of-false (ltb limit) values 0 (λ i inside. le-ltb limit (get_or values i 0) (h i inside)))
+    ap not (list_any-false (ltb limit) values 0 (λ i inside. le-ltb limit (get_or values i 0) (h i inside)))
 
 pub none-above-tabulate : (limit n : ℕ) (f : ℕ → ℕ) → ((i : ℕ) → i < n → f i ≤ limit) → none_above limit (tabulate n f) ≡ true
 none-above-tabulate limit n f h =

@@ -6,15 +6,15 @@ use Rattle.algebra.specs.Lists.{joined}
 use Rattle.rows.specs.Setups.{setup_of}
 use Rattle.rows.specs.declared.Setup.{Setup}
 use Rattle.records.specs.declared.Observation.{Observation}
-use Rattle.records.specs.Fields.{record_with}
 
 -- a record by its setup, its windows, and its smoothed values, sums and peaks, whose latest rows are zeros
 abbrev pub worked_record : Setup → ℕ → List ℕ → List ℕ → List ℕ → Observation
-worked_record setup windows smoothed sum peak = record_with setup windows smoothed sum peak (replicate 600 0)
+worked_record setup windows smoothed sum peak =
+    record { setup = setup; windows = windows; smoothed = smoothed; sum = sum; peak = peak; latest = replicate 600 0 }
 
 -- a record with other latest rows
 abbrev pub keeping : List ℕ → Observation → Observation
-keeping latest o = record_with o.setup o.windows o.smoothed o.sum o.peak latest
+keeping latest o = record o { latest = latest }
 
 -- the numbers of the orders, of which that of one order alone is not 0
 abbrev pub only : ℕ → ℕ → List ℕ

@@ -2,7 +2,6 @@
 use mathlib.Core.Bool.{Bool, true, false}
 use mathlib.Core.List.{List, [], ◌∷◌, map}
 use mathlib.Core.Path.{◌≡◌, refl}
-use Rattle.algebra.specs.Lists.{any_of}
 use Rattle.rows.specs.Systems.{is_system}
 use Rattle.rows.specs.Editions.{is_edition}
 use Rattle.rows.specs.Setups.{is_setup}
@@ -49,5 +48,5 @@ records =
     []
 
 records-worked : map (λ c. is_sound c.0) records ≡ map (λ c. c.1) records
-unfolding is_sound is_setup is_system is_edition none_above all_zero any_of
+unfolding is_sound is_setup is_system is_edition none_above all_zero
 records-worked = refl

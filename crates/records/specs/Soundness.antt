@@ -1,6 +1,7 @@
 -- Which records are sound (document 01, "The observation record"; document 02, card 7, for the edition, and card 8, for the latest rows).
 use Rattle.std.specs.Prelude.{Bool, not, ◌||◌, List, [], ◌∷◌, ℕ, ◌*◌, eqb, leb, ltb, drop}
-use Rattle.algebra.specs.Lists.{any_of, all_true}
+use Rattle.algebra.specs.Lists.{all_true}
+use Rattle.std.specs.List.{list_any}
 use Rattle.rows.specs.Orders.{order_count}
 use Rattle.rows.specs.Rows.{largest_value}
 use Rattle.rows.specs.Setups.{is_setup}
@@ -13,7 +14,7 @@ most_windows = 45000
 
 -- no value is above the bound
 unfoldable pub none_above : ℕ → List ℕ → Bool
-none_above bound values = not (any_of (ltb bound) values)
+none_above bound values = not (list_any (ltb bound) values)
 
 -- all smoothed values, sums and peaks are 0
 abbrev pub zero_tests : List ℕ → List ℕ → List ℕ → List Bool

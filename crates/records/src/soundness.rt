@@ -1,77 +1,54 @@
-// Which records are sound, and the check of it. The tests are lent the record's fields, so that none of them
-// copies it.
-ghost use Rattle.std.specs.Prelude.{true, [], ◌∷◌, ◌≡◌, ◌*◌, drop};
-ghost use Rattle.refusals.specs.Answers.{first_fault};
+// Which records are sound, and the check of it. A record is lent, so that no test copies it.
+ghost use Rattle.std.specs.Prelude.{[], ◌≡◌, ◌*◌, ltb, drop};
+ghost use Rattle.std.specs.List.{list_any};
+ghost use Rattle.refusals.specs.Answers.{first_fault, refusal_of};
 ghost use Rattle.rows.specs.Orders.{order_count};
-ghost use Rattle.records.specs.Fields.{record_with};
-ghost use Rattle.records.specs.Soundness.{none_above, all_zero, is_sound, sound_first};
+ghost use Rattle.records.specs.Soundness.{all_zero, is_sound, sound_first};
 
-use latest_rows::VALUES_KEPT;
+use crate::Observation;
 use lists::any_above;
-use refusals::{UNSOUND_RECORD, fault_or};
-use rows::{LARGEST_VALUE, ORDER_COUNT, Setup, is_setup};
+use refusals::{Refusal, refuse_if};
+use rows::{LARGEST_VALUE, ORDER_COUNT};
 
 // At most 45,000 windows, 2.5 hours.
 pub const MOST_WINDOWS: u32 = 45000;
 
-// All smoothed values, sums and peaks are 0.
-fn all_zero<'a>(
-    smoothed: &'a [u64; ORDER_COUNT],
-    sum: &'a [u64; ORDER_COUNT],
-    peak: &'a [u64; ORDER_COUNT],
-) -> bool
-    ensures { result ≡ all_zero smoothed.now sum.now peak.now }
-{
-    !any_above(smoothed, 0) & !any_above(sum, 0) & !any_above(peak, 0)
-}
-
-// The latest rows hold zeros where none has come yet.
-fn zeros_to_come(windows: u32, latest: &[u32]) -> bool
-    ensures { result ≡ none_above 0 (drop (windows * order_count) latest.now) }
-{
-    let mut place = windows as usize * ORDER_COUNT;
-    while place < latest.len() {
-        if latest[place] != 0 {
-            return false;
-        }
-        place += 1;
+impl Observation {
+    // All smoothed values, sums and peaks are 0.
+    #[tactic(auto, unfolding(crate::specs::Soundness::all_zero, crate::specs::Soundness::none_above))]
+    fn is_all_zero(&self) -> bool
+        ensures { result ≡ all_zero self.now.smoothed self.now.sum self.now.peak }
+    {
+        !any_above(&self.smoothed, 0) & !any_above(&self.sum, 0) & !any_above(&self.peak, 0)
     }
-    true
-}
 
-// Its setup is known, no number of it is too large for its count of windows, no window means zeros, and
-// the latest rows hold zeros where none has come yet.
-fn is_sound<'a>(
-    setup: Setup,
-    windows: u32,
-    smoothed: &'a [u64; ORDER_COUNT],
-    sum: &'a [u64; ORDER_COUNT],
-    peak: &'a [u64; ORDER_COUNT],
-    latest: &'a [u32; VALUES_KEPT],
-) -> bool
-    ensures { result ≡ is_sound (record_with setup windows smoothed.now sum.now peak.now latest.now) }
-{
-    is_setup(setup)
-        & (windows <= MOST_WINDOWS)
-        & !any_above(sum, windows as u64 * LARGEST_VALUE)
-        & !any_above(peak, LARGEST_VALUE)
-        & !any_above(smoothed, LARGEST_VALUE)
-        & ((windows != 0) | all_zero(smoothed, sum, peak))
-        & zeros_to_come(windows, latest)
-}
+    // Some value of the latest rows is not 0 where no row has come yet.
+    fn has_value_to_come(&self) -> bool
+        ensures { result ≡ list_any (ltb 0) (drop (self.now.windows * order_count) self.now.latest) }
+    {
+        let come = self.windows as usize * ORDER_COUNT;
+        self.latest.iter().skip(come).any(|value| 0 < *value)
+    }
 
-// The check of a record's soundness, before those that answer `rest`: 7 record not sound.
-pub fn sound_fault_or<'a>(
-    setup: Setup,
-    windows: u32,
-    smoothed: &'a [u64; ORDER_COUNT],
-    sum: &'a [u64; ORDER_COUNT],
-    peak: &'a [u64; ORDER_COUNT],
-    latest: &'a [u32; VALUES_KEPT],
-    rest: u32,
-) -> u32
-    ensures { result ≡ first_fault (sound_first (record_with setup windows smoothed.now sum.now peak.now latest.now) ((true, rest) ∷ [])) }
-{
-    let sound = is_sound(setup, windows, smoothed, sum, peak, latest);
-    fault_or(!sound, UNSOUND_RECORD, rest)
+    // Its setup is known, no number of it is too large for its count of windows, no window means zeros, and
+    // the latest rows hold zeros where none has come yet.
+    #[tactic(auto, unfolding(crate::specs::Soundness::is_sound, crate::specs::Soundness::none_above))]
+    fn is_sound(&self) -> bool
+        ensures { result ≡ is_sound self.now }
+    {
+        self.setup.is_known()
+            & (self.windows <= MOST_WINDOWS)
+            & !any_above(&self.sum, u64::from(self.windows) * LARGEST_VALUE)
+            & !any_above(&self.peak, LARGEST_VALUE)
+            & !any_above(&self.smoothed, LARGEST_VALUE)
+            & ((self.windows != 0) | self.is_all_zero())
+            & !self.has_value_to_come()
+    }
+
+    // The check of a record: 7 record not sound.
+    pub fn check(&self) -> Result<(), Refusal>
+        ensures { refusal_of result ≡ first_fault (sound_first self.now []) }
+    {
+        refuse_if(!self.is_sound(), Refusal::UnsoundRecord)
+    }
 }

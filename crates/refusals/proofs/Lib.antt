@@ -1,3 +1,4 @@
 -- The laws of a row of checks.
 pub mod Answers
 pub mod Appended
+pub mod Results

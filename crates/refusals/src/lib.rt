@@ -1,59 +1,66 @@
-// The refusal numbers of document 01's table and of document 02's cards, each once, under a name that says what it
-// refuses.
-// specs/Numbers.antt has the same numbers once for the contracts. A row of checks is a nest of fault_or.
+// The refusals of document 01's table and of document 02's cards. A call that may be refused answers a Result; a row of checks is a row of `if`s, of which
+// the first that finds its fault returns.
+// specs/Numbers.antt has the documents' numbers once for the contracts, and specs/Answers.antt what a Result stands for in the documents.
 #![tactic(auto)]
 
 ghost use Rattle.std.specs.Prelude.{cond, ◌≡◌};
+ghost use Rattle.refusals.specs.Answers.{number_of, refusal_of};
+ghost use Rattle.refusals.specs.Numbers.{no_refusal};
 
-// The call is accepted: nothing is refused.
+// No refusal: the number of an accepted call, for a C caller and for a reading, which hold a number.
 pub const NO_REFUSAL: u32 = 0;
-// The system is neither 10 nor 12 cycles in a window.
-pub const UNKNOWN_SYSTEM: u32 = 1;
-// Fewer than 2,048 samples from the start of the window.
-pub const SHORT_WINDOW: u32 = 2;
-// A sample of the window lies outside -131,071..131,071.
-pub const SAMPLE_OUT_OF_RANGE: u32 = 3;
-// A buffer of lines that does not hold 512, or that reaches past line 1,023.
-pub const WRONG_LINE_COUNT: u32 = 4;
-// A spectral line above 2^59.
-pub const LINE_TOO_LARGE: u32 = 5;
-// A harmonic order outside the orders of the call.
-pub const ORDER_OUT_OF_RANGE: u32 = 6;
-// An observation record that is not sound.
-pub const UNSOUND_RECORD: u32 = 7;
-// A row whose system or edition is not the record's.
-pub const OTHER_SETUP: u32 = 8;
-// The record holds 45,000 windows already.
-pub const RECORD_FULL: u32 = 9;
-// No window has come yet.
-pub const NO_WINDOW: u32 = 10;
-// K, the units per ampere, lies outside 1..2^28.
-pub const SCALE_OUT_OF_RANGE: u32 = 11;
-// The distortion of a row whose first value is 0.
-pub const NO_FUNDAMENTAL: u32 = 12;
-// A text that is no number column, or a number wider than its column.
-pub const NOT_A_COLUMN: u32 = 13;
-// A text buffer of the wrong length.
-pub const WRONG_BUFFER_LENGTH: u32 = 14;
-// No refusal of document 01 has a larger number.
-pub const LARGEST_REFUSAL: u32 = WRONG_BUFFER_LENGTH;
-// A class letter other than A or B.
-pub const UNKNOWN_CLASS: u32 = 15;
-// The edition is neither 0 (edition 2) nor 1 (A1).
-pub const UNKNOWN_EDITION: u32 = 19;
-// The record holds fewer than 15 windows.
-pub const TOO_FEW_WINDOWS: u32 = 20;
 
-// What a public call answers: NO_REFUSAL with the value, or a refusal's number with 0.
-#[derive(Clone, Copy)]
-pub struct Answer {
-    pub refusal: u32,
-    pub value: u64,
+// Why a call is refused, each with its number in the documents.
+#[derive(Clone, Copy, Debug, PartialEq, Eq)]
+pub enum Refusal {
+    // The system is neither 10 nor 12 cycles in a window.
+    UnknownSystem = 1,
+    // Fewer than 2,048 samples from the start of the window.
+    ShortWindow = 2,
+    // A sample of the window lies outside -131,071..131,071.
+    SampleOutOfRange = 3,
+    // A buffer of lines that does not hold 512, or that reaches past line 1,023.
+    WrongLineCount = 4,
+    // A spectral line above 2^59.
+    LineTooLarge = 5,
+    // A harmonic order outside the orders of the call.
+    OrderOutOfRange = 6,
+    // An observation record that is not sound.
+    UnsoundRecord = 7,
+    // A row whose system or edition is not the record's.
+    OtherSetup = 8,
+    // The record holds 45,000 windows already.
+    RecordFull = 9,
+    // No window has come yet.
+    NoWindow = 10,
+    // K, the units per ampere, lies outside 1..2^28.
+    ScaleOutOfRange = 11,
+    // The distortion of a row whose first value is 0.
+    NoFundamental = 12,
+    // A text that is no number column, or a number wider than its column.
+    NotAColumn = 13,
+    // A text buffer of the wrong length.
+    WrongBufferLength = 14,
+    // A class letter other than A or B.
+    UnknownClass = 15,
+    // The edition is neither 0 (edition 2) nor 1 (A1).
+    UnknownEdition = 19,
+    // The record holds fewer than 15 windows.
+    TooFewWindows = 20,
 }
 
-// One check of a row: the number of a fault that is there, or what the checks after it answer.
-pub fn fault_or(fault: bool, number: u32, rest: u32) -> u32
-    ensures { result ≡ cond fault number rest }
+impl Refusal {
+    // Its number in the documents, which a C caller receives.
+    pub fn number(self) -> u32
+        ensures { result ≡ number_of self }
+    {
+        self as u32
+    }
+}
+
+// One check of a row: the refusal where its fault is there.
+pub fn refuse_if(fault: bool, refusal: Refusal) -> Result<(), Refusal>
+    ensures { refusal_of result ≡ cond fault (number_of refusal) no_refusal }
 {
-    if fault { number } else { rest }
+    if fault { Err(refusal) } else { Ok(()) }
 }

@@ -3,22 +3,20 @@
 
 mod edition;
 mod order;
-mod refused;
 mod setup_checks;
 mod system;
 mod words;
 
 pub use edition::{EDITION_2, EDITION_A1};
 pub use order::{ORDER_COUNT, is_order};
-pub use refused::{refused_row, refused_setup};
-pub use setup_checks::{is_setup, same_setup, setup_fault_or};
 pub use words::first_values;
 
 // The largest value of a row: 2^32 - 1.
 pub const LARGEST_VALUE: u64 = 4294967295;
 
-// What a row and a record are made under: the system and the edition. Any numbers may stand in it.
-#[derive(Clone, Copy)]
+// What a row and a record are made under: the system and the edition. Any numbers may stand in it: the calls refuse those that are unknown with the
+// documents' numbers, and a record that holds them is not sound.
+#[derive(Clone, Copy, PartialEq, Eq)]
 pub struct Setup {
     pub system: u32,
     pub edition: u32,
@@ -29,12 +27,4 @@ pub struct Setup {
 pub struct Row {
     pub setup: Setup,
     pub values: [u32; ORDER_COUNT],
-}
-
-// What a call for a row answers: NO_REFUSAL with the row, or a refusal's number with zeros of the
-// refused setup.
-#[derive(Drop)]
-pub struct RowAnswer {
-    pub refusal: u32,
-    pub row: Row,
 }

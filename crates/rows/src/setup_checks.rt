@@ -1,34 +1,38 @@
-// What a call checks of a setup, the system and the edition that a row and a record are made under.
-ghost use Rattle.std.specs.Prelude.{true, [], ◌∷◌, ◌++◌, ◌≡◌};
-ghost use Rattle.refusals.specs.Answers.{first_fault};
-ghost use Rattle.rows.specs.Setups.{is_setup, setup_checks, same_setup};
+// The checks of a setup, and the one of a record that is refused.
+ghost use Rattle.std.specs.Prelude.{◌≡◌};
+ghost use Rattle.refusals.specs.Answers.{first_fault, refusal_of};
+ghost use Rattle.rows.specs.Setups.{is_setup, setup_checks, refused_setup};
 
-use crate::Setup;
 use crate::edition::is_edition;
 use crate::system::is_system;
-use refusals::{UNKNOWN_EDITION, UNKNOWN_SYSTEM, fault_or};
+use crate::{EDITION_2, Setup};
+use refusals::{Refusal, refuse_if};
 
-// The system and the edition are known.
-pub fn is_setup(setup: Setup) -> bool
-    ensures { result ≡ is_setup setup }
-{
-    is_system(setup.system) & is_edition(setup.edition)
-}
+impl Setup {
+    // The system and the edition are known.
+    #[tactic(auto, unfolding(crate::specs::Setups::is_setup))]
+    pub fn is_known(self) -> bool
+        ensures { result ≡ is_setup self }
+    {
+        is_system(self.system) && is_edition(self.edition)
+    }
 
-// The checks of a setup, before those that answer `rest`: 1 unknown system, 19 unknown edition.
-pub fn setup_fault_or(setup: Setup, rest: u32) -> u32
-    ensures { result ≡ first_fault (setup_checks setup ++ (true, rest) ∷ []) }
-{
-    fault_or(
-        !is_system(setup.system),
-        UNKNOWN_SYSTEM,
-        fault_or(!is_edition(setup.edition), UNKNOWN_EDITION, rest),
-    )
-}
+    // The checks of a setup: 1 unknown system, 19 unknown edition.
+    pub fn check(self) -> Result<(), Refusal>
+        ensures { refusal_of result ≡ first_fault (setup_checks self) }
+    {
+        refuse_if(!is_system(self.system), Refusal::UnknownSystem)?;
+        refuse_if(!is_edition(self.edition), Refusal::UnknownEdition)?;
+        Ok(())
+    }
 
-// Both have the same system and the same edition.
-pub fn same_setup(a: Setup, b: Setup) -> bool
-    ensures { result ≡ same_setup a b }
-{
-    (a.system == b.system) & (a.edition == b.edition)
+    // The setup of a record that is refused.
+    pub fn refused() -> Setup
+        ensures { result ≡ refused_setup }
+    {
+        Setup {
+            system: 10,
+            edition: EDITION_2,
+        }
+    }
 }

@@ -5,6 +5,7 @@ use Prim.Native.Nat.{ℕ, ◌+◌, ◌-◌, ◌*◌, ◌%◌, ◌≤◌}
 use native.Mathlib.Omega.{arith}
 use lib.Dec.{leb, leb→le}
 use lib.IntN.{pos, nat_abs}
+use Rattle.std.proofs.lemmas.Bool.{cases_lt}
 use Rattle.algebra.specs.Integers.{square}
 use Rattle.algebra.specs.Rounding.{nearest}
 use Rattle.algebra.proofs.Computed.{pass_below}
@@ -12,7 +13,7 @@ use Rattle.algebra.proofs.Integer.{nat_abs-negℤ}
 use Rattle.sine.specs.Turn.{over_half, over_turn, turn, half_turn, quarter_turn}
 use Rattle.sine.specs.ExactSine.{denominator, term, factorial, added, taken_away, quarter_sine}
 use Rattle.sine.specs.Wave.{full_scale, table_entry, table_sine, table_cosine}
-use Rattle.sine.proofs.Turn.{le-or-lt, over_half-up, over_turn-first, over_turn-second}
+use Rattle.sine.proofs.Turn.{over_half-up, over_turn-first, over_turn-second}
 use Rattle.sine.proofs.Symmetry.{over_half-mirrored}
 
 -- ---- any wave that is made of a quarter
@@ -22,13 +23,13 @@ module _ (f : ℕ → ℕ) where
   nat_abs-over_turn : (i : ℕ) → nat_abs (over_turn f i) ≡ over_half f (i % half_turn)
   nat_abs-over_turn i =
       ⊎_elim
-      (λ late.
-      let same : i % turn - half_turn ≡ i % half_turn = omega arith in
-      ap nat_abs (over_turn-second f i late) ∙ nat_abs-negℤ (pos (over_half f (i % turn - half_turn))) ∙ ap (over_half f) same)
       (λ early.
       let same : i % turn ≡ i % half_turn = omega arith in
       ap nat_abs (over_turn-first f i early) ∙ ap (over_half f) same)
-      (le-or-lt half_turn (i % turn))
+      (λ late.
+      let same : i % turn - half_turn ≡ i % half_turn = omega arith in
+      ap nat_abs (over_turn-second f i late) ∙ nat_abs-negℤ (pos (over_half f (i % turn - half_turn))) ∙ ap (over_half f) same)
+      (cases_lt (i % turn) half_turn)
 
   -- the wave at an index and a quarter turn later are, but for the sign, the quarter at m and at 512 − m
   over-circle :
@@ -40,16 +41,16 @@ module _ (f : ℕ → ℕ) where
       let s = (i + quarter_turn) % half_turn in
       rw (nat_abs-over_turn i, nat_abs-over_turn (i + quarter_turn))
       (⊎_elim
+      (λ up.
+      let cosine : over_half f s ≡ f (quarter_turn - r) =
+      over_half-mirrored f s (quarter_turn - r) (omega arith) ∙ over_half-up f (quarter_turn - r) (omega arith) in
+      rw (over_half-up f r (omega arith), cosine) (over-quarter r (omega arith)))
       (λ back.
       let sine : over_half f r ≡ f (half_turn - r) = over_half-mirrored f r (half_turn - r) (omega arith) ∙ over_half-up f (half_turn - r) (omega arith) in
       let mirror : s ≡ quarter_turn - (half_turn - r) = omega arith in
       let cosine : over_half f s ≡ f (quarter_turn - (half_turn - r)) = over_half-up f s (omega arith) ∙ ap f mirror in
       rw (sine, cosine) (over-quarter (half_turn - r) (omega arith)))
-      (λ up.
-      let cosine : over_half f s ≡ f (quarter_turn - r) =
-      over_half-mirrored f s (quarter_turn - r) (omega arith) ∙ over_half-up f (quarter_turn - r) (omega arith) in
-      rw (over_half-up f r (omega arith), cosine) (over-quarter r (omega arith)))
-      (le-or-lt quarter_turn r))
+      (cases_lt r quarter_turn))
 
 -- ---- the table
 

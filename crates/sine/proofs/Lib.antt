@@ -4,3 +4,4 @@ pub mod ExactSine
 pub mod Wave
 pub mod Symmetry
 pub mod Circle
+mod Written

@@ -6,17 +6,18 @@ use Prim.Native.Nat.{ℕ, ◌+◌, ◌-◌, ◌*◌, ◌%◌, ◌≤◌, ◌<◌
 use native.Mathlib.Nat.{mul-add-mod_self_left}
 use native.Mathlib.Omega.{arith}
 use lib.IntN.{pos, neg_ℤ, neg_ℤ-neg_ℤ}
+use Rattle.std.proofs.lemmas.Bool.{cases_lt}
 use Rattle.algebra.specs.Rounding.{nearest}
 use Rattle.sine.specs.Turn.{over_half, over_turn, turn, half_turn, quarter_turn}
 use Rattle.sine.specs.ExactSine.{denominator, term, factorial, added, taken_away, quarter_sine}
 use Rattle.sine.specs.Wave.{table_entry, table_sine, table_cosine}
-use Rattle.sine.proofs.Turn.{le-or-lt, over_half-up, over_half-back, over_turn-first, over_turn-second}
+use Rattle.sine.proofs.Turn.{over_half-up, over_half-back, over_turn-first, over_turn-second}
 use Rattle.sine.proofs.Wave.{table_sine-mod}
 
 module _ (f : ℕ → ℕ) where
   -- the first half turn goes back as it came
   pub over_half-mirrored : (r s : ℕ) → r + s ≡ half_turn → over_half f r ≡ over_half f s
-  over_half-mirrored r s sum = ⊎_elim (λ up. ⊎_elim (both-up up) (back up) (le-or-lt s quarter_turn)) down (le-or-lt r quarter_turn)
+  over_half-mirrored r s sum = ⊎_elim down (λ up. ⊎_elim (back up) (both-up up) (cases_lt quarter_turn s)) (cases_lt quarter_turn r)
     where
       both-up : r ≤ quarter_turn → s ≤ quarter_turn → over_half f r ≡ over_half f s
       both-up x y = let same : r ≡ s = omega arith in ap (over_half f) same
@@ -35,30 +36,30 @@ module _ (f : ℕ → ℕ) where
   over_turn-half : (i : ℕ) → over_turn f (i + half_turn) ≡ neg_ℤ (over_turn f i)
   over_turn-half i =
       ⊎_elim
-      (λ late.
-      let back : (i + half_turn) % turn ≡ i % turn - half_turn = omega arith in
-      over_turn-first f (i + half_turn) (omega arith)
-      ∙ ap (λ n. pos (over_half f n)) back
-      ∙ sym (ap neg_ℤ (over_turn-second f i late) ∙ neg_ℤ-neg_ℤ (pos (over_half f (i % turn - half_turn)))))
       (λ early.
       let on : (i + half_turn) % turn - half_turn ≡ i % turn = omega arith in
       over_turn-second f (i + half_turn) (omega arith)
       ∙ ap (λ n. neg_ℤ (pos (over_half f n))) on
       ∙ sym (ap neg_ℤ (over_turn-first f i early)))
-      (le-or-lt half_turn (i % turn))
+      (λ late.
+      let back : (i + half_turn) % turn ≡ i % turn - half_turn = omega arith in
+      over_turn-first f (i + half_turn) (omega arith)
+      ∙ ap (λ n. pos (over_half f n)) back
+      ∙ sym (ap neg_ℤ (over_turn-second f i late) ∙ neg_ℤ-neg_ℤ (pos (over_half f (i % turn - half_turn)))))
+      (cases_lt (i % turn) half_turn)
 
   module _ (begins : f 0 ≡ 0) where
     -- the wave is 0 where a half turn begins
     over_turn-start : (i : ℕ) → i % half_turn ≡ 0 → over_turn f i ≡ pos 0
     over_turn-start i h =
         ⊎_elim
-        (λ late.
-        let start : i % turn - half_turn ≡ 0 = omega arith in
-        over_turn-second f i late ∙ ap (λ n. neg_ℤ (pos (over_half f n))) start ∙ ap (λ n. neg_ℤ (pos n)) nothing)
         (λ early.
         let start : i % turn ≡ 0 = omega arith in
         over_turn-first f i early ∙ ap (λ n. pos (over_half f n)) start ∙ ap pos nothing)
-        (le-or-lt half_turn (i % turn))
+        (λ late.
+        let start : i % turn - half_turn ≡ 0 = omega arith in
+        over_turn-second f i late ∙ ap (λ n. neg_ℤ (pos (over_half f n))) start ∙ ap (λ n. neg_ℤ (pos n)) nothing)
+        (cases_lt (i % turn) half_turn)
       where
         nothing : over_half f 0 ≡ 0
         nothing = over_half-up f 0 (omega arith) ∙ begins
@@ -67,23 +68,23 @@ module _ (f : ℕ → ℕ) where
     mirrored-early : (a b : ℕ) → (a + b) % turn ≡ half_turn → a % turn < half_turn → over_turn f a ≡ over_turn f b
     mirrored-early a b sum early =
         ⊎_elim
-        (λ late. over_turn-start a (omega arith) ∙ sym (over_turn-start b (omega arith)))
         (λ both.
         over_turn-first f a early
         ∙ ap pos (over_half-mirrored (a % turn) (b % turn) (omega arith))
         ∙ sym (over_turn-first f b both))
-        (le-or-lt half_turn (b % turn))
+        (λ late. over_turn-start a (omega arith) ∙ sym (over_turn-start b (omega arith)))
+        (cases_lt (b % turn) half_turn)
 
     over_turn-mirrored : (a b : ℕ) → (a + b) % turn ≡ half_turn → over_turn f a ≡ over_turn f b
     over_turn-mirrored a b sum =
         ⊎_elim
+        (mirrored-early a b sum)
         (λ late.
         let negated = mirrored-early (a + half_turn) (b + half_turn) (omega arith) (omega arith) in
         sym (neg_ℤ-neg_ℤ (over_turn f a))
         ∙ ap neg_ℤ (sym (over_turn-half a) ∙ negated ∙ over_turn-half b)
         ∙ neg_ℤ-neg_ℤ (over_turn f b))
-        (mirrored-early a b sum)
-        (le-or-lt half_turn (a % turn))
+        (cases_lt (a % turn) half_turn)
 
     over_turn-odd : (a b : ℕ) → (a + b) % turn ≡ 0 → over_turn f a ≡ neg_ℤ (over_turn f b)
     over_turn-odd a b sum = over_turn-mirrored a (b + half_turn) (omega arith) ∙ over_turn-half b

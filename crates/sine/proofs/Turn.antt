@@ -1,16 +1,13 @@
 -- A turn made of its first quarter: what holds over the quarter holds at every index, and the wave repeats after a turn.
 use mathlib.Core.Path.{◌≡◌}
-use mathlib.Core.Logic.{◌⊎◌, inl, inr, ⊎_elim}
+use mathlib.Core.Logic.{⊎_elim}
 use Prim.Native.Nat.{ℕ, ◌-◌, ◌%◌, ◌≤◌, ◌<◌}
-use native.Mathlib.Decide.{dec_le}
 use native.Mathlib.Nat.{mod-mod}
-use native.Mathlib.Omega.{arith, not-le}
+use native.Mathlib.Omega.{arith}
 use lib.IntN.{ℤ, pos, neg_ℤ}
 use borrow.Author.Tests.{lt-ltb, le-ltb, le-leb, lt-leb}
+use Rattle.std.proofs.lemmas.Bool.{cases_lt}
 use Rattle.sine.specs.Turn.{over_half, over_turn, turn, half_turn, quarter_turn}
-
-pub le-or-lt : (a b : ℕ) → (a ≤ b) ⊎ (b < a)
-le-or-lt a b = elim (dec_le a b) [ yes h ↦ inl h | no h ↦ inr (not-le a b h) ]
 
 -- the four quarters
 module _ (f : ℕ → ℕ) where
@@ -37,19 +34,19 @@ module _ (P : ℤ → ℤ → Type 0) (f g : ℕ → ℕ)
   over-half : (r : ℕ) → r ≤ half_turn → P (pos (over_half f r)) (pos (over_half g r))
   over-half r h =
       ⊎_elim
-      (λ up. rw (over_half-up f r up, over_half-up g r up) (over-quarter r up))
       (λ back. rw (over_half-back f r back, over_half-back g r back) (over-quarter (half_turn - r) (omega arith)))
-      (le-or-lt r quarter_turn)
+      (λ up. rw (over_half-up f r up, over_half-up g r up) (over-quarter r up))
+      (cases_lt quarter_turn r)
 
   pub over-turn : (i : ℕ) → P (over_turn f i) (over_turn g i)
   over-turn i =
       ⊎_elim
+      (λ first. rw (over_turn-first f i first, over_turn-first g i first) (over-half (i % turn) (omega arith)))
       (λ second.
       rw (over_turn-second f i second, over_turn-second g i second)
       (negated (over_half f (i % turn - half_turn)) (over_half g (i % turn - half_turn))
       (over-half (i % turn - half_turn) (omega arith))))
-      (λ first. rw (over_turn-first f i first, over_turn-first g i first) (over-half (i % turn) (omega arith)))
-      (le-or-lt half_turn (i % turn))
+      (cases_lt (i % turn) half_turn)
 
 -- the wave repeats after a turn
 pub over_turn-mod : (f : ℕ → ℕ) (i : ℕ) → over_turn f (i % turn) ≡ over_turn f i

@@ -10,6 +10,7 @@ use lib.Dec.{leb, leb→le, le→leb, lit<}
 use lib.IntN.{pos, neg_ℤ, nat_abs, ◌-ℤ◌, ◌*ℤ◌, neg_ℤ-+ℤ}
 use lib.ListN.{get_or}
 use borrow.Author.Tests.{lt-ltb, le-ltb}
+use Rattle.std.proofs.lemmas.Bool.{cases_lt}
 use Rattle.algebra.specs.Rounding.{nearest}
 use Rattle.algebra.proofs.Integer.{*ℤ-negℤ, nat_abs-negℤ}
 use Rattle.algebra.proofs.Lists.{get_or-tabulate}
@@ -18,7 +19,7 @@ use Rattle.sine.specs.ExactSine.{denominator, term, factorial, added, taken_away
 use Rattle.sine.specs.Wave.{full_scale, table_entry, table_sine, table_cosine, WithinHalfUnit, quarter_list, height_in, wave_list}
 use Rattle.algebra.proofs.Computed.{pass_below}
 use Rattle.algebra.proofs.Rounding.{nearest-is}
-use Rattle.sine.proofs.Turn.{le-or-lt, over-turn, over_turn-mod}
+use Rattle.sine.proofs.Turn.{over-turn, over_turn-mod}
 use Rattle.sine.proofs.ExactSine.{denominator-pos}
 
 -- the table is at most the full scale
@@ -43,9 +44,9 @@ half-apart : (x y d : ℕ) → 2 * x ≤ 2 * y + d → 2 * y ≤ 2 * x + d → 2
 half-apart x zero d h k = omega arith
 half-apart x (suc y) d h k =
     ⊎_elim
-    (λ (above : suc y ≤ x). rw (le-ltb x (suc y) above) (omega arith))
     (λ (below : x < suc y). rw (lt-ltb x (suc y) below) (omega arith))
-    (le-or-lt (suc y) x)
+    (λ (above : suc y ≤ x). rw (le-ltb x (suc y) above) (omega arith))
+    (cases_lt x (suc y))
 
 -- the table is at most half a unit from 2^30 times the exact sine
 table_entry-near : (m : ℕ) → m ≤ quarter_turn → WithinHalfUnit (pos (quarter_sine m)) (pos (table_entry m))

@@ -95,15 +95,12 @@ pub fn quarter_wave() -> [u32; QUARTER_TURN + 1]
 }
 
 // The first half turn: up the lent quarter, and back.
+#[tactic(auto, unfolding(crate::specs::Turn::over_half))]
 fn half_wave(quarter: &[u32; QUARTER_TURN + 1], at: usize) -> u32
     requires { at < half_turn }
     ensures { result ≡ over_half (height_in quarter.now) at }
 {
-    if at <= QUARTER_TURN {
-        quarter[at]
-    } else {
-        quarter[HALF_TURN - at]
-    }
+    quarter[at.min(HALF_TURN - at)]
 }
 
 // An index modulo a turn.
@@ -115,30 +112,22 @@ pub fn turn_index(index: usize) -> usize
 
 // The wave at any index, made of any lent quarter: of the table's, the table's sine. 64 bits hold the negative of every height.
 // The height is looked up before its sign is known, so that a loop over it needs no branch.
+#[tactic(auto, unfolding(crate::specs::Turn::over_turn))]
 pub fn wave_at(quarter: &[u32; QUARTER_TURN + 1], index: usize) -> i64
     ensures { result ≡ over_turn (height_in quarter.now) index }
 {
     let at = turn_index(index);
-    let height = half_wave(quarter, at % HALF_TURN) as i64;
+    let height = i64::from(half_wave(quarter, at % HALF_TURN));
     if at < HALF_TURN { height } else { -height }
 }
 
-// Writes the wave at 0, 1, 2 .. to the end of the lent buffer.
-fn fill_from(quarter: &[u32; QUARTER_TURN + 1], wave: &mut [i32])
-    requires { quarter.now ≡ quarter_list }
-    ensures { wave.new ≡ tabulate (length wave.old) table_sine }
-{
-    let mut i = 0;
-    while i < wave.len() {
-        wave[i] = wave_at(quarter, i) as i32;
-        i += 1;
-    }
-}
-
 // Writes the wave of a whole turn, to be made once and lent to the loops that read it.
+#[tactic(auto, using(crate::proofs::Written::written), unfolding(crate::specs::Wave::wave_list))]
 pub fn fill_wave(wave: &mut [i32; TURN])
     ensures { wave.new ≡ wave_list }
 {
     let quarter = quarter_wave();
-    fill_from(&quarter, wave)
+    for i in 0..TURN {
+        wave[i] = wave_at(&quarter, i) as i32;
+    }
 }

@@ -2,24 +2,27 @@
 use mathlib.Core.Bool.{Bool, true, false, not}
 use mathlib.Core.List.{List, [], ◌∷◌}
 use mathlib.Core.Path.{◌≡◌, refl, sym, ap, ap₂, ◌∙◌}
-use Prim.Native.Nat.{ℕ, suc, ◌+◌, ◌-◌, ◌*◌, ◌%◌, ◌^◌, ◌≤◌, ◌<◌}
+use Prim.Native.Nat.{ℕ, ◌+◌, ◌-◌, ◌*◌, ◌%◌, ◌^◌, ◌≤◌, ◌<◌}
 use native.Mathlib.Nat.{zero-mul, mul-le-mul}
 use native.Mathlib.Omega.{arith}
 use borrow.Author.Tests.{eqb-true, eqb-false, not-true, not-false}
-use lib.IntN.{ℤ, neg_ℤ, nat_abs, ◌+ℤ◌, ◌*ℤ◌}
-use Rattle.algebra.specs.Lists.{any_of}
+use lib.IntN.{ℤ, neg_ℤ, nat_abs, ◌+ℤ◌, ◌-ℤ◌, ◌*ℤ◌}
+use mir.Syntax.{w32, w64}
+use Rattle.std.proofs.lemmas.Int.{ints}
+use Rattle.spectral_lines.proofs.Bounds.{small_line_sum, sum_read}
+use Rattle.spectral_lines.proofs.NextSum.{read, Added, added, next-sum}
 use Rattle.algebra.specs.Sums.{sum_to}
 use Rattle.algebra.proofs.Integer.{nat_abs-*ℤ, nat_abs-+ℤ-le, nat_abs-negℤ}
 use Rattle.algebra.proofs.Ring.{variable, ◌⊕◌, ◌⊖◌, ◌⊗◌, ⊝◌, ring}
 use Rattle.algebra.proofs.SumTo.{sum_to-same, sum_to-pairs, sum_to-nat_abs-le}
 use Rattle.sine.specs.Turn.{turn, half_turn}
 use Rattle.sine.specs.Wave.{full_scale, table_sine, table_cosine}
-use Rattle.windows.specs.Window.{window_length, largest_sample, out_of_range}
+use Rattle.sine.proofs.Wave.{table_sine-le, table_cosine-le}
+use Rattle.windows.specs.Window.{window_length, largest_sample}
 use Rattle.spectral_lines.specs.Line.{line_sum}
 use Rattle.spectral_lines.specs.Folding.{held_by, cosine_of, sine_of}
 use Rattle.spectral_lines.specs.Pairs.{pair_sum, pair_difference, cosine_over_pairs, sine_over_pairs}
 use Rattle.single_lines.specs.Quarter.{across, is_odd, cosine_across, sine_across, cosine_over_quarter, sine_over_quarter}
-use Rattle.windows.proofs.Samples.{sample-le}
 use Rattle.spectral_lines.proofs.LineWaves.{cosine-same, cosine-opposite, sine-same, sine-opposite}
 use Rattle.spectral_lines.proofs.PairedSums.{cosine_over_pairs-whole, sine_over_pairs-whole}
 
@@ -96,24 +99,34 @@ module _ (window : List ℤ) (k : ℕ) where
 
 -- ---- how large the numbers are, and the sums over the first of them
 
+-- two numbers that are small are added, and taken from each other, in 32 bits
+module _ (a b : ℤ) (a_small : nat_abs a ≤ 2 ^ 29) (b_small : nat_abs b ≤ 2 ^ 29) where
+  pub added_read : read w32 (read w32 a +ℤ read w32 b) ≡ a +ℤ b
+  added_read = omega (arith, ints)
+
+  pub difference_read : read w32 (read w32 a -ℤ read w32 b) ≡ a -ℤ b
+  difference_read = omega (arith, ints)
+
+pub ruleset crossed = (added_read, difference_read)
+
 across-small : (odd : Bool) (a b : ℤ) (most : ℕ) → nat_abs a ≤ most → nat_abs b ≤ most → nat_abs (across odd a b) ≤ 2 * most
 across-small true a b most g h = omega (arith, nat_abs-+ℤ-le a (neg_ℤ b), nat_abs-negℤ b)
 across-small false a b most g h = omega (arith, nat_abs-+ℤ-le a b)
 
-module _ (window : List ℤ) (in-range : any_of out_of_range window ≡ false) where
+module _ (window : List ℤ) (small : (j : ℕ) → nat_abs (held_by window j) ≤ largest_sample) where
   pub pair_sum-small : (p : ℕ) → nat_abs (pair_sum window p) ≤ 2 * largest_sample
   pair_sum-small p =
       across-small false (held_by window p) (held_by window (window_length - p)) largest_sample
-      (sample-le window in-range p) (sample-le window in-range (window_length - p))
+      (small p) (small (window_length - p))
 
   pub pair_difference-small : (p : ℕ) → nat_abs (pair_difference window p) ≤ 2 * largest_sample
   pair_difference-small p =
       across-small true (held_by window p) (held_by window (window_length - p)) largest_sample
-      (sample-le window in-range p) (sample-le window in-range (window_length - p))
+      (small p) (small (window_length - p))
 
   pub ends_across-small : (k : ℕ) → nat_abs (across (is_odd k) (held_by window 0) (held_by window 1024)) ≤ 2 * largest_sample
   ends_across-small k =
-      across-small (is_odd k) (held_by window 0) (held_by window 1024) largest_sample (sample-le window in-range 0) (sample-le window in-range 1024)
+      across-small (is_odd k) (held_by window 0) (held_by window 1024) largest_sample (small 0) (small 1024)
 
   pub cosine_across-small : (k j : ℕ) → nat_abs (cosine_across window k j) ≤ 4 * largest_sample
   cosine_across-small k j = across-small (is_odd k) (pair_sum window j) (pair_sum window (1024 - j)) (2 * largest_sample) (pair_sum-small j) (pair_sum-small (1024 - j))
@@ -131,17 +144,109 @@ quarter-sum-small number wave number-le wave-le n within =
           (λ i below. rw nat_abs-*ℤ (mul-le-mul (number-le (1 + i)) (wave-le (1 + i)))),
     )
 
+-- ---- one place more, as a loop adds it up
+
+pub next-place :
+    (f wave : ℕ → ℤ) (j : ℕ) (sum product number factor : ℤ) →
+    ((p : ℕ) → nat_abs (f p) ≤ 4 * largest_sample) →
+    ((p : ℕ) → nat_abs (wave p) ≤ full_scale) →
+    1 ≤ j →
+    j ≤ 511 →
+    sum ≡ sum_to (j - 1) (λ i. f (1 + i) *ℤ wave (1 + i)) →
+    number ≡ f j →
+    factor ≡ wave j →
+    product ≡ read w32 number *ℤ read w32 factor →
+    Added sum product (sum_to (j + 1 - 1) (λ i. f (1 + i) *ℤ wave (1 + i)))
+next-place f wave j sum product number factor f_le wave-le some most is number_is factor_is product-is =
+    let small = quarter-sum-small f wave f_le wave-le (j - 1) (omega arith) in
+    let place : j ≡ 1 + (j - 1) = omega arith in
+    let more : j + 1 - 1 ≡ j - 1 + 1 = omega arith in
+    rw more
+    (next-sum (λ i. f (1 + i)) (λ i. wave (1 + i)) (j - 1) sum product number factor
+    (omega (arith, small)) (omega (arith, f_le (1 + (j - 1)))) (wave-le (1 + (j - 1))) is
+    (number_is ∙ ap f place) (factor_is ∙ ap wave place) product-is)
+
+-- the window's sums
+module _ (window : List ℤ) (small : (j : ℕ) → nat_abs (held_by window j) ≤ largest_sample) (k j : ℕ) (some : 1 ≤ j) (most : j ≤ 511)
+    (odd : Bool) (parity : odd ≡ is_odd k) (sum product number factor : ℤ) where
+  pub next-cosine :
+      sum ≡ sum_to (j - 1) (λ i. cosine_across window k (1 + i) *ℤ table_cosine ((1 + i) * k)) →
+      number ≡ across odd (pair_sum window j) (pair_sum window (1024 - j)) →
+      factor ≡ table_cosine (j * k) →
+      product ≡ read w32 number *ℤ read w32 factor →
+      Added sum product (sum_to (j + 1 - 1) (λ i. cosine_across window k (1 + i) *ℤ table_cosine ((1 + i) * k)))
+  next-cosine is number_is =
+      next-place (cosine_across window k) (λ p. table_cosine (p * k)) j sum product number factor
+      (cosine_across-small window small k) (λ p. table_cosine-le (p * k)) some most is (rw parity at number_is)
+
+  pub next-sine :
+      sum ≡ sum_to (j - 1) (λ i. sine_across window k (1 + i) *ℤ table_sine ((1 + i) * k)) →
+      number ≡ across (not odd) (pair_difference window j) (pair_difference window (1024 - j)) →
+      factor ≡ table_sine (j * k) →
+      product ≡ read w32 number *ℤ read w32 factor →
+      Added sum product (sum_to (j + 1 - 1) (λ i. sine_across window k (1 + i) *ℤ table_sine ((1 + i) * k)))
+  next-sine is number_is =
+      next-place (sine_across window k) (λ p. table_sine (p * k)) j sum product number factor
+      (sine_across-small window small k) (λ p. table_sine-le (p * k)) some most is (rw parity at number_is)
+
+-- ---- the samples that are left over
+
 -- a product more, of a number of two samples
 pub product-more-small : (sum number wave : ℤ) (bound : ℕ) → nat_abs sum < bound → nat_abs number ≤ 2 * largest_sample → nat_abs wave ≤ full_scale →
     nat_abs (sum +ℤ number *ℤ wave) < bound + 2 ^ 48
 product-more-small sum number wave bound h small wave-le =
     omega (arith, nat_abs-+ℤ-le sum (number *ℤ wave), nat_abs-*ℤ number wave, mul-le-mul small wave-le)
 
--- the sum over the places before j, and then with j
-pub place-added : (f : ℕ → ℤ) (j : ℕ) (sum next : ℤ) → 1 ≤ j → sum ≡ sum_to (j - 1) (λ i. f (1 + i)) → next ≡ f j →
-    sum +ℤ next ≡ sum_to (j + 1 - 1) (λ i. f (1 + i))
-unfolding sum_to
-place-added f j sum next some s n =
-    let more : j + 1 - 1 ≡ suc (j - 1) = omega arith in
-    let place : j ≡ 1 + (j - 1) = omega arith in
-    rw more (ap₂ ◌+ℤ◌ s (n ∙ ap f place))
+module _ (window : List ℤ) (small : (j : ℕ) → nat_abs (held_by window j) ≤ largest_sample) (k : ℕ) where
+  abbrev cosine_sum : ℤ
+  cosine_sum = sum_to 511 (λ i. cosine_across window k (1 + i) *ℤ table_cosine ((1 + i) * k))
+
+  abbrev sine_sum : ℤ
+  sine_sum = sum_to 511 (λ i. sine_across window k (1 + i) *ℤ table_sine ((1 + i) * k))
+
+  abbrev ends : ℤ
+  ends = across (is_odd k) (held_by window 0) (held_by window 1024)
+
+  pub cosine_sum-small : nat_abs cosine_sum < 2 ^ 58
+  cosine_sum-small = quarter-sum-small (cosine_across window k) (λ p. table_cosine (p * k)) (cosine_across-small window small k) (λ p. table_cosine-le (p * k)) 511 (omega arith)
+
+  pub sine_sum-small : nat_abs sine_sum < 2 ^ 58
+  sine_sum-small = quarter-sum-small (sine_across window k) (λ p. table_sine (p * k)) (sine_across-small window small k) (λ p. table_sine-le (p * k)) 511 (omega arith)
+
+  -- the sum with the samples 0 and 1024, which an odd line takes from each other
+  module _ (sum product number factor : ℤ) (odd : Bool) (parity : odd ≡ is_odd k) (is : sum ≡ cosine_sum)
+      (number_is : number ≡ across odd (held_by window 0) (held_by window 1024)) (factor_is : factor ≡ table_cosine 0)
+      (product-is : product ≡ read w32 number *ℤ read w32 factor) where
+    pub with-ends : Added (read w64 sum) product (cosine_sum +ℤ ends *ℤ table_cosine 0)
+    with-ends =
+        added cosine_sum ends (table_cosine 0) (read w64 sum) product number factor
+        (omega (arith, cosine_sum-small)) (omega (arith, ends_across-small window small k)) (table_cosine-le 0)
+        (rw is (sum_read cosine_sum cosine_sum-small)) (rw parity at number_is) factor_is product-is
+
+    -- and with the pair 512
+    pub whole-cosine : (product-2 number-2 factor-2 : ℤ) → number-2 ≡ pair_sum window 512 → factor-2 ≡ table_cosine (512 * k) →
+        product-2 ≡ read w32 number-2 *ℤ read w32 factor-2 →
+        Added (read w64 (read w64 sum +ℤ read w64 product)) product-2 (line_sum table_cosine window k)
+    unfolding cosine_over_quarter
+    whole-cosine product-2 number-2 factor-2 number-2_is factor-2_is product-2-is =
+        let before = product-more-small cosine_sum ends (table_cosine 0) (2 ^ 58) cosine_sum-small (ends_across-small window small k) (table_cosine-le 0) in
+        rw (← cosine_over_quarter-whole window k)
+        (added (cosine_sum +ℤ ends *ℤ table_cosine 0) (pair_sum window 512) (table_cosine (512 * k)) (read w64 (read w64 sum +ℤ read w64 product)) product-2 number-2 factor-2
+        (omega (arith, before)) (omega (arith, pair_sum-small window small 512)) (table_cosine-le (512 * k)) with-ends.is number-2_is factor-2_is product-2-is)
+
+  pub whole-sine : (sum product number factor : ℤ) → sum ≡ sine_sum → number ≡ pair_difference window 512 → factor ≡ table_sine (512 * k) →
+      product ≡ read w32 number *ℤ read w32 factor →
+      Added (read w64 sum) product (line_sum table_sine window k)
+  unfolding sine_over_quarter
+  whole-sine sum product number factor is number_is factor_is product-is =
+      rw (← sine_over_quarter-whole window k)
+      (added sine_sum (pair_difference window 512) (table_sine (512 * k)) (read w64 sum) product number factor
+      (omega (arith, sine_sum-small)) (omega (arith, pair_difference-small window small 512)) (table_sine-le (512 * k))
+      (rw is (sum_read sine_sum sine_sum-small)) number_is factor_is product-is)
+
+  -- both stay small
+  pub whole-cosine-small : nat_abs (line_sum table_cosine window k) < 2 ^ 58
+  whole-cosine-small = small_line_sum window small table_cosine table_cosine-le k
+
+  pub whole-sine-small : nat_abs (line_sum table_sine window k) < 2 ^ 58
+  whole-sine-small = small_line_sum window small table_sine table_sine-le k

@@ -5,42 +5,45 @@
 mod alone;
 
 ghost use Rattle.std.specs.Prelude.{◌≡◌, ◌+◌, ◌≤◌, length};
-ghost use Rattle.sine.specs.Wave.{quarter_list};
-ghost use Rattle.windows.specs.Window.{InRange};
+ghost use Rattle.refusals.specs.Answers.{refusal_of};
 ghost use Rattle.spectral_lines.specs.Line.{line_limit, lines_from};
 ghost use Rattle.spectral_lines.specs.Calls.{lines_from_refusal, lines_from_exit};
 
-use alone::line_alone;
-use refusals::NO_REFUSAL;
-use sine::QUARTER_TURN;
+use alone::Window;
+use refusals::Refusal;
 use spectral_lines::reach_past;
-use windows::{window_at, window_refusal};
+use windows::accepted_window;
 
-// Writes a window's lines from `first` on, as many as the buffer holds, each by itself.
-fn fill_alone(window: &[i32], quarter: &[u32; QUARTER_TURN + 1], first: usize, lines: &mut [u64])
-    requires in_range { InRange window.now }
-    requires quarter_value { quarter.now ≡ quarter_list }
-    requires lines_bound { first + length lines.old ≤ line_limit }
-    ensures { lines.new ≡ lines_from first (length lines.old) window.now }
+// Writes a window's lines from `first` on, as many as the buffer holds, each by itself. `spectrum` has such a loop over windows of its own: a trait with its law
+// for both would be longer than the two.
+#[tactic(auto, using(spectral_lines::proofs::Lines::lines_from_places))]
+fn fill_alone(window: &Window, first: usize, lines: &mut [u64])
+    requires { first + length lines.old ≤ line_limit }
+    ensures { lines.new ≡ lines_from first (length lines.old) window.now.samples.now }
 {
-    let mut i = 0;
-    while i < lines.len() {
-        lines[i] = line_alone(window, quarter, first + i);
-        i += 1;
+    for i in 0..lines.len() {
+        lines[i] = window.line(first + i);
     }
 }
 
-// Writes the lines from `first` on of the window that begins at `start` to `lines`, as many as `lines` holds, and answers the refusal's number:
+// Writes the lines from `first` on of the window that begins at `start` to `lines`, as many as `lines` holds:
 // what `spectrum::lines_from` does, with less scratch and more time for a line. A refused call leaves `lines` as they were.
-pub fn lines_alone(recording: &[i32], start: usize, first: usize, lines: &mut [u64]) -> u32
-    ensures value { result ≡ lines_from_refusal recording.now start first lines.old }
+#[tactic(auto, unfolding(windows::specs::Checks::window_refusal, spectral_lines::specs::Calls::lines_from_refusal, spectral_lines::specs::Calls::lines_from_exit))]
+pub fn lines_alone(
+    recording: &[i32],
+    start: usize,
+    first: usize,
+    lines: &mut [u64],
+) -> Result<(), Refusal>
+    ensures value { refusal_of result ≡ lines_from_refusal recording.now start first lines.old }
     ensures lines_after { lines.new ≡ lines_from_exit recording.now start first lines.old }
 {
-    let refusal = window_refusal(recording, start, reach_past(first, lines.len()));
-    if refusal != NO_REFUSAL {
-        return refusal;
-    }
+    let samples = accepted_window(recording, start, reach_past(first, lines.len()))?;
     let quarter = sine::quarter_wave();
-    fill_alone(window_at(recording, start), &quarter, first, lines);
-    refusal
+    let window = Window {
+        samples,
+        quarter: &quarter,
+    };
+    fill_alone(&window, first, lines);
+    Ok(())
 }

@@ -1,88 +1,80 @@
--- The sum of some neighbouring lines, of which those past the last count as 0, is the sum of those that are there.
-use Rattle.std.proofs.Common.{◌≡◌, ℕ, zero, suc, ◌+◌, ◌-◌, ◌<◌, ◌≤◌, min, List, length, sym, refl, ◌∙◌, le_of_lt, sub-eq-zero_of_le, add-one, arith}
-use native.Mathlib.Nat.{sub_self}
+-- The sum of neighbouring lines as that of a part of the list, and the sum over a span as it is worked from its first line on. Lines past the last count as 0.
+use Rattle.std.proofs.Common.{◌≡◌, ℕ, zero, suc, ◌+◌, ◌-◌, ◌*◌, ◌%◌, ◌^◌, ◌<◌, ◌≤◌, true, false, List, length, get_or, take, drop, sum, ap, add-one, arith}
+use Rattle.std.proofs.lemmas.List.{get_or-drop, get_or_past, take_all, take_min, take_rest, drop_min, drop-drop}
+use Rattle.std.proofs.lemmas.List.Sums.{sum_by_more}
+use native.Mathlib.Nat.{add-mod, mod-add-mod}
 use native.Mathlib.Decide.{dec_lt}
-use lib.ListN.{get_or-eq_default}
-use Rattle.spans.specs.Spans.{line_at, lines_total}
-use Rattle.spans.proofs.Weights.{lines_total-none, lines_total-suc, lines_total-append}
+use Rattle.kinds.specs.declared.Span.{Span}
+use Rattle.spans.specs.Spans.{weights_in, line_at, weighted_sum, lines_total}
+use Rattle.spans.proofs.Weights.{lines_total-none, lines_total-suc, weighted_sum-half_ends, weighted_sum-few, weighted_sum-whole_ends}
 
--- lines that are all 0
-lines_total-zeros : (f : ℕ → ℕ) (first count : ℕ) → ((k : ℕ) → first ≤ k → f k ≡ 0) → lines_total f first count ≡ 0
-lines_total-zeros f first zero none = lines_total-none f first
-lines_total-zeros f first (suc count) none =
-    rw (← add-one count)
-    (omega (arith, lines_total-suc f first count, lines_total-zeros f first count none, none (first + count) (omega arith)))
+-- one number more, or none where the list has ended
+sum-take-more : (xs : List ℕ) (i : ℕ) → sum (take (i + 1) xs) ≡ sum (take i xs) + get_or xs i 0
+sum-take-more xs i = by_place (dec_lt i (length xs))
+  where
+    by_place : Dec (i < length xs) → sum (take (i + 1) xs) ≡ sum (take i xs) + get_or xs i 0
+    by_place (yes here) = sum_by_more (λ x. x) xs i 0 here
+    by_place (no past) =
+        rw (take_all (i + 1) xs (omega arith), take_all i xs (omega arith), get_or_past xs i 0 (omega arith)) (omega arith)
 
--- ---- places that are cut to a length
+pub lines_total-sum : (lines : List ℕ) (first count : ℕ) → lines_total (line_at lines) first count ≡ sum (take count (drop first lines))
+lines_total-sum lines first zero = lines_total-none (line_at lines) first
+lines_total-sum lines first (suc count) =
+    rw (
+      ← add-one count,
+      lines_total-suc (line_at lines) first count,
+      sum-take-more (drop first lines) count,
+      get_or-drop first lines count 0,
+      lines_total-sum lines first count,
+    )
 
-cut-place : (first place length start cut : ℕ) → start ≡ min first length → cut ≡ start + min place (length - start) → cut ≡ min (first + place) length
-cut-place first place length start cut s c = omega arith
+-- ---- what the code of a span's sum rests on
 
-min_earlier : (a b length end : ℕ) → a ≤ b → end ≡ min b length → min (min a length) end ≡ min a length
-min_earlier a b length end le e = omega arith
+-- two numbers, and a third twice
+added : (a b t : ℕ) → (a + 2 * t + b) % 2 ^ 64 ≡ (((a + b) % 2 ^ 64 + t % 2 ^ 64) % 2 ^ 64 + t % 2 ^ 64) % 2 ^ 64
+added a b t = rw (← add-mod (a + b) t (2 ^ 64), ← add-mod (a + b + t) t (2 ^ 64)) (ap (λ n. n % 2 ^ 64) (omega arith))
 
-min_later : (b a length end : ℕ) → b ≤ a → end ≡ min b length → min (min a length) end ≡ end
-min_later b a length end le e = omega arith
+module _ (lines : List ℕ) (span : Span) where
+  -- the sum over the span, as far as 64 bits hold it
+  abbrev span_total : ℕ
+  span_total = weighted_sum (line_at lines) (weights_in span) % 2 ^ 64
 
-shift : (n a b : ℕ) → n + b - (n + a) ≡ b - a
-shift n a b = omega arith
+  -- the lines from the span's first on, and the sum of so many of them from a place on
+  abbrev rest : List ℕ
+  rest = drop span.first lines
 
-cut-between : (a b length here end : ℕ) → a ≤ b → here ≡ min a length → end ≡ min b length → end - here ≡ min (b - a) (length - here)
-cut-between a b length here end le h e = omega arith
+  abbrev part_total : ℕ → ℕ → ℕ
+  part_total first count = sum (take count (drop first rest)) % 2 ^ 64
 
--- ---- the lines that are there
+  pub span_total-whole_ends : span.half_ends ≡ false → let all = part_total 0 span.count in span_total ≡ (all + all) % 2 ^ 64
+  span_total-whole_ends e =
+      let total = lines_total (line_at lines) span.first span.count in
+      let twice : 2 * total ≡ total + total = omega arith in
+      rw (weighted_sum-whole_ends (line_at lines) span e, twice, lines_total-sum lines span.first span.count)
+      (add-mod (sum (take span.count rest)) (sum (take span.count rest)) (2 ^ 64))
 
-module _ (lines : List ℕ) where
-  -- no line stands past the last
-  lines_total-past : (first count : ℕ) → length lines ≤ first → lines_total (line_at lines) first count ≡ 0
-  lines_total-past first count past =
-      lines_total-zeros (line_at lines) first count (λ k after. get_or-eq_default lines 0 {n = k} (omega arith))
+  pub span_total-few : span.half_ends ≡ true → span.count < 2 → span_total ≡ part_total 0 span.count
+  span_total-few e few = rw (weighted_sum-few (line_at lines) span e few, lines_total-sum lines span.first span.count)
 
-  pub lines_total-cut :
-      (first count start there : ℕ) →
-      start ≡ min first (length lines) → there ≡ min count (length lines - start) →
-      lines_total (line_at lines) start there ≡ lines_total (line_at lines) first count
-  lines_total-cut first count start there s t = by_first (dec_lt first (length lines))
-    where
-      by_first : Dec (first < length lines) → lines_total (line_at lines) start there ≡ lines_total (line_at lines) first count
-      by_first (yes inside) =
-          let here : start ≡ first = omega arith in
-          let all : there + (count - there) ≡ count = omega arith in
-          rw here
-          (omega (
-            arith,
-            rw all at (lines_total-append (line_at lines) first there (count - there)),
-            by-rest (dec_lt there count),
-          ))
-        where
-          by-rest : Dec (there < count) → lines_total (line_at lines) (first + there) (count - there) ≡ 0
-          by-rest (yes more) = lines_total-past (first + there) (count - there) (omega arith)
-          by-rest (no none) =
-              let left : count - there ≡ 0 = omega arith in
-              rw left (lines_total-none (line_at lines) (first + there))
-      by_first (no past) =
-          let none : there ≡ 0 = omega arith in
-          rw none (lines_total-none (line_at lines) start ∙ sym (lines_total-past first count (omega arith)))
+  pub span_total-half_ends :
+      span.half_ends ≡ true → 2 ≤ span.count →
+      let between = part_total 1 (span.count - 2) in
+      let ends = (get_or rest 0 0 + get_or rest (span.count - 1) 0) % 2 ^ 64 in
+      span_total ≡ ((ends + between) % 2 ^ 64 + between) % 2 ^ 64
+  span_total-half_ends e many =
+      let here : span.first + 0 ≡ span.first = omega arith in
+      rw (
+        get_or-drop span.first lines 0 0,
+        here,
+        get_or-drop span.first lines (span.count - 1) 0,
+        drop-drop 1 span.first lines,
+        ← lines_total-sum lines (span.first + 1) (span.count - 2),
+        weighted_sum-half_ends (line_at lines) span e many,
+      )
+      (added _ (line_at lines (span.first + (span.count - 1))) (lines_total (line_at lines) (span.first + 1) (span.count - 2)))
 
-  -- from a place to before another, both cut to what is there
-  pub lines_total-there :
-      (first from to start here end : ℕ) →
-      start ≡ min first (length lines) → end ≡ start + min to (length lines - start) → here ≡ min (start + min from (length lines - start)) end →
-      lines_total (line_at lines) here (end - here) ≡ lines_total (line_at lines) (first + from) (to - from)
-  lines_total-there first from to start here end s e h = by_order (dec_lt to from)
-    where
-      last : end ≡ min (first + to) (length lines)
-      last = cut-place first to (length lines) start end s e
+-- the steps of the sum of neighbouring lines
+pub ruleset total_steps = (sum_by_more, mod-add-mod, take_min, drop_min, take_all)
 
-      begins : start + min from (length lines - start) ≡ min (first + from) (length lines)
-      begins = cut-place first from (length lines) start _ s refl
-
-      by_order : Dec (to < from) → lines_total (line_at lines) here (end - here) ≡ lines_total (line_at lines) (first + from) (to - from)
-      by_order (yes none) =
-          let here-last : here ≡ end = rw begins at h ∙ min_later (first + to) (first + from) (length lines) end (omega arith) last in
-          rw (here-last, sub_self end, sub-eq-zero_of_le (le_of_lt none)) (lines_total-none (line_at lines) end ∙ sym (lines_total-none (line_at lines) (first + from)))
-      by_order (no some) =
-          let here-first : here ≡ min (first + from) (length lines) = rw begins at h ∙ min_earlier (first + from) (first + to) (length lines) end (omega arith) last in
-          let asked : first + to - (first + from) ≡ to - from = shift first from to in
-          lines_total-cut (first + from) (to - from) here (end - here) here-first
-          (rw asked at (cut-between (first + from) (first + to) (length lines) here end (omega arith) here-first last))
+-- the ways to work a span's sum
+pub ruleset span_steps = (span_total-whole_ends, span_total-few, span_total-half_ends, take_rest, drop_min)

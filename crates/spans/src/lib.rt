@@ -5,5 +5,5 @@
 mod checks;
 mod sums;
 
-pub use checks::line_refusal;
+pub use checks::check_lines;
 pub use sums::span_sum;

@@ -9,7 +9,7 @@ use native.Mathlib.Nat.{mul-le-mul, mul-le-mul_left}
 use native.Mathlib.Omega.{arith}
 use lib.IntN.{ℤ, pos, neg_ℤ, nat_abs, ◌-ℤ◌, ◌*ℤ◌}
 use lib.ListN.{get_or}
-use Rattle.algebra.specs.Lists.{any_of}
+use Rattle.std.specs.List.{list_any}
 use Rattle.algebra.specs.Sums.{sum_to}
 use Rattle.algebra.proofs.Integer.{nat_abs-negℤ, nat_abs-*ℤ, nat_abs-+ℤ-le}
 use Rattle.algebra.proofs.Ring.{variable, constant, ◌⊖◌, ◌⊗◌, ring}
@@ -64,7 +64,7 @@ three_quarters d r e t rounding table =
       mul-le-mul_left d rounding,
     )
 
-module _ (window : List ℤ) (in-range : any_of out_of_range window ≡ false) where
+module _ (window : List ℤ) (in-range : list_any out_of_range window ≡ false) where
   module _ (exact table : ℕ → ℤ) (near : (i : ℕ) → WithinHalfUnit (exact i) (table i)) where
     -- the table's part of the distance, in one summand
     summand-near :

@@ -8,7 +8,8 @@ use native.Mathlib.Nat.{zero-mul}
 use native.Mathlib.Omega.{arith}
 use lib.IntN.{ℤ, pos, ◌+ℤ◌, ◌*ℤ◌, zero-*ℤ, +ℤ_idl, +ℤ_idr}
 use lib.ListN.{get_or, replicate, length-replicate, get_or-replicate, get_or-eq_default}
-use Rattle.algebra.specs.Lists.{tabulate, any_of}
+use Rattle.algebra.specs.Lists.{tabulate}
+use Rattle.std.specs.List.{list_any}
 use Rattle.algebra.proofs.Lists.{tabulate-same}
 use Rattle.algebra.specs.Rounding.{nearest, nearestℤ, floor_over}
 use Rattle.algebra.specs.Sums.{sum_to}
@@ -24,8 +25,8 @@ use Rattle.spectral_lines.proofs.Bounds.{summand}
 unfoldable pub pulse : List ℤ
 pulse = pos 1000 ∷ replicate 2047 (pos 0)
 
-pub pulse-in-range : any_of out_of_range pulse ≡ false
-unfolding pulse any_of out_of_range
+pub pulse-in-range : list_any out_of_range pulse ≡ false
+unfolding pulse out_of_range
 pulse-in-range = refl
 
 -- a sample 0 and a sample 3, the rest 0
@@ -109,5 +110,5 @@ pair-last-lines = simp two_samples-line
 
 -- what a call for them leaves in a buffer
 pub pair-exit : lines_from_exit pair 0 1022 (7 ∷ 7 ∷ []) ≡ 1369 ∷ 324 ∷ []
-unfolding lines_from_exit lines_from_refusal window_at any_of out_of_range two_samples
+unfolding lines_from_exit lines_from_refusal window_at out_of_range two_samples
 pair-exit = pair-last-lines

@@ -1,97 +1,39 @@
--- A line from a folded window (card 13): the two sums over the places where the line's foldings end are document 01's, and so small that 64 bits hold them.
+-- A line from a folded window (card 13): the two sums over the places where the line's foldings end are document 01's.
 use mathlib.Core.Bool.{Bool, true, false, cond}
 use mathlib.Core.List.{List}
-use mathlib.Core.Path.{◌≡◌, refl, sym, ap, ◌∙◌}
-use Prim.Native.Nat.{ℕ, suc, ◌+◌, ◌-◌, ◌*◌, ◌/◌, ◌%◌, ◌^◌, ◌≤◌, ◌<◌}
-use native.Mathlib.Nat.{le_refl, le_trans, mul-le-mul, mul-le-mul_right, le-div_iff_mul-le, mul-div-le, add-zero, mod-lt, mod-eq_of_lt, mod-eq-sub-mod, mod-mod_of_dvd, dvd-mul_right}
+use mathlib.Core.Path.{◌≡◌, refl, sym, ap, ap₂, ◌∙◌}
+use Prim.Native.Nat.{ℕ, suc, ◌+◌, ◌-◌, ◌*◌, ◌%◌, ◌^◌, ◌≤◌, ◌<◌}
+use native.Mathlib.Nat.{mod-lt, mod-eq_of_lt, mod-eq-sub-mod, mod-mod_of_dvd, dvd-mul_right}
 use native.Mathlib.Decide.{dec_lt}
 use native.Mathlib.Omega.{arith}
 use borrow.Author.Tests.{eqb-true, eqb-false}
 use lib.Dec.{eqb, lit<}
-use lib.IntN.{ℤ, pos, neg_ℤ, nat_abs, ◌*ℤ◌, zero-*ℤ, *ℤ-zero}
-use lib.ListN.{length, take, drop, length-take, length-drop}
-use lib.Pow.{pow_pos}
-use lib.Seq.{get_or-take, get_or-drop}
-use Rattle.algebra.specs.Integers.{square}
-use Rattle.algebra.specs.Rounding.{nearestℤ, floor_over}
+use lib.IntN.{ℤ, pos, neg_ℤ, nat_abs, ◌+ℤ◌, ◌*ℤ◌, zero-*ℤ, *ℤ-zero, +ℤ_idl}
+use mir.Syntax.{w32, w64}
+use mir.Val.{SFits}
+use mir.ValLaws.{to_z-of_z}
 use Rattle.algebra.specs.Sums.{sum_to}
-use Rattle.algebra.proofs.Integer.{*ℤ-negℤ, nat_abs-*ℤ}
-use Rattle.algebra.proofs.SumTo.{sum_to-same, sum_to-*ℤ, sum_to-negℤ, sum_to-nat_abs-le}
-use Rattle.sine.specs.Turn.{turn, half_turn, quarter_turn}
-use Rattle.sine.specs.Wave.{full_scale, table_sine, table_cosine}
+use Rattle.algebra.specs.Rounding.{nearest}
+use Rattle.algebra.proofs.Signed.{sfits-nat_abs}
+use Rattle.algebra.proofs.Integer.{+ℤ-*ℤ, *ℤ-negℤ, nat_abs-*ℤ}
+use Rattle.algebra.proofs.SumTo.{sum_to-same, sum_to-*ℤ, sum_to-negℤ}
+use Rattle.sine.specs.Turn.{over_half, over_turn, turn, half_turn, quarter_turn}
+use Rattle.sine.specs.ExactSine.{factorial, denominator, term, added, taken_away, quarter_sine}
+use Rattle.sine.specs.Wave.{full_scale, table_entry, table_sine, table_cosine, wave_list}
 use Rattle.sine.proofs.Symmetry.{table_sine-start}
-use Rattle.sine.proofs.Wave.{table_cosine-le}
-use Rattle.windows.specs.Window.{window_length}
-use Rattle.spectral_lines.specs.Line.{line_sum, sum_scale, rounded_sum, line_of}
+use Rattle.sine.proofs.Wave.{table_cosine-le, wave_list-at}
+use Rattle.windows.specs.Window.{window_length, InRange}
+use Rattle.spectral_lines.specs.Line.{line_sum}
 use Rattle.spectral_lines.specs.Folding.{held_by, place_sum, cosine_of, sine_of}
-use Rattle.folding.specs.Halving.{largest_folded, folded_window}
-use Rattle.folding.proofs.HalvedSums.{at-most-512, folded-cosine, folded-sine, folded-0}
+use Rattle.spectral_lines.proofs.Bounds.{line_sum-le, sum_read}
+use Rattle.spectral_lines.proofs.NextSum.{read}
+use Rattle.folding.specs.Halving.{folded_window}
+use Rattle.folding.proofs.HalvedSums.{folded-cosine, folded-sine, folded-0}
 use Rattle.folding.proofs.FoldedBounds.{folded_window-left}
-use Rattle.spectrum.specs.LinePlaces.{part_sum, EndsAt, sine_ahead}
-use Rattle.spectrum.specs.Prepared.{Prepared, SumFits}
+use Rattle.spectrum.specs.LinePlaces.{EndsAt, sine_ahead}
+use Rattle.spectrum.specs.Prepared.{SumsFit, SumOfFolded}
+use Rattle.spectrum.proofs.LineSums.{ahead}
 use Rattle.spectrum.proofs.SineAhead.{sine-is-cosine, sine-is-opposite}
-
--- what the sine's sum takes at the cosine's place
-abbrev pub ahead : List ℤ → ℕ → ℕ → ℤ
-ahead folded half p = held_by folded (p + sine_ahead half)
-
-pub half_le : (k half : ℕ) → EndsAt k half → half ≤ 512
-half_le k half ends = rw ends.is-power (at-most-512 ends.power ends.few)
-
-pub half_pos : (k half : ℕ) → EndsAt k half → 1 ≤ half
-half_pos k half ends = rw ends.is-power (pow_pos ends.power)
-
--- ---- a part of a list
-
-module _ (list : List ℤ) (first count : ℕ) (room : first + count ≤ length list) where
-  pub part_length : length (take count (drop first list)) ≡ count
-  part_length = simp (length-take, length-drop) (omega arith)
-
-  part_held : (i : ℕ) → i < count → held_by (take count (drop first list)) i ≡ held_by list (first + i)
-  part_held i below = get_or-take count (drop first list) i (pos 0) below ∙ get_or-drop first list i (pos 0)
-
-  -- the sum over a part that is multiplied by the cosines from another place on
-  pub part-sum : (from k : ℕ) → part_sum (take count (drop first list)) from k ≡ sum_to count (λ i. held_by list (first + i) *ℤ cosine_of k (from + i))
-  unfolding part_sum
-  part-sum from k =
-      rw part_length (sum_to-same count _ _ (λ i below. ap (λ z. z *ℤ cosine_of k (from + i)) (part_held i below)))
-
--- ---- the size of a line's numbers and of its sums
-
--- a sum over at most `count` numbers that, times count, are so small, is below 2^58, as document 01's sums are
-pub sum_fits-le : (count n : ℕ) (f wave : ℕ → ℤ) → 1 ≤ count → n ≤ count → ((i : ℕ) → nat_abs (wave i) ≤ full_scale) →
-    ((i : ℕ) → i < n → nat_abs (f i) * count ≤ largest_folded) →
-    nat_abs (sum_to n (λ i. f i *ℤ wave i)) < 2 ^ 58
-sum_fits-le count n f wave some few wave-le Fits-one =
-    let most = largest_folded / count in
-    let each : nat_abs (sum_to n (λ i. f i *ℤ wave i)) ≤ n * (most * full_scale) =
-    sum_to-nat_abs-le n (most * full_scale) _
-    (λ i below. rw nat_abs-*ℤ (mul-le-mul ((le-div_iff_mul-le some).1 (Fits-one i below)) (wave-le i))) in
-    let all : n * most ≤ largest_folded = le_trans (mul-le-mul_right most few) (mul-div-le largest_folded count) in
-    omega (arith, each, mul-le-mul_right full_scale all)
-
-module _ (folded wave : List ℤ) (prepared : Prepared folded wave) (k half : ℕ) (ends : EndsAt k half) where
-  -- the numbers that the halving at half left
-  left-small : (p : ℕ) → half < p → p < 2049 - half → nat_abs (held_by folded p) * half ≤ largest_folded
-  left-small p above below =
-      let held : held_by folded p ≡ folded_window prepared.window p = ap (λ f. f p) prepared.is-folded in
-      rw (held, ends.is-power)
-      (folded_window-left prepared.window prepared.in-range ends.power ends.few p (rw ends.is-power at above) (rw ends.is-power at below))
-
-  -- half of them in a row
-  pub left-fits : (first : ℕ) → half < first → first + half ≤ 2049 - half → SumFits (take half (drop first folded))
-  left-fits first above below i inside =
-      let room : first + half ≤ length folded = omega (arith, prepared.long, half_pos k half ends) in
-      let long = part_length folded first half room in
-      let here : i < half = rw long at inside in
-      rw (long, part_held folded first half room i here) (left-small (first + i) (omega arith) (omega arith))
-
-  pub sine-sum-small : nat_abs (place_sum (suc half) half (ahead folded half) (cosine_of k)) < 2 ^ 58
-  unfolding place_sum
-  sine-sum-small =
-      sum_fits-le half half (λ i. ahead folded half (suc half + i)) (λ i. cosine_of k (suc half + i)) (half_pos k half ends) (le_refl half)
-      (λ i. table_cosine-le ((suc half + i) * k))
-      (λ i below. left-small (suc half + i + sine_ahead half) (omega (arith, half_le k half ends)) (omega (arith, half_le k half ends)))
 
 -- ---- the sine's sum over the cosine's places
 
@@ -140,7 +82,7 @@ module _ (folded window : List ℤ) (is-folded : held_by folded ≡ folded_windo
 
     -- the sine's, with the sign by the angle at the last halving
     abbrev ahead_sum : ℤ
-    ahead_sum = place_sum (suc half) half (ahead folded half) (cosine_of k)
+    ahead_sum = place_sum (suc half) half (ahead (held_by folded) half) (cosine_of k)
 
     sine-places : place_sum (2049 - 2 * half) half (folded_window window) (sine_of k) ≡ line_sum table_sine window k
     sine-places = rw ends.is-power (folded-sine ends.power k ends.few odd window)
@@ -154,11 +96,11 @@ module _ (folded window : List ℤ) (is-folded : held_by folded ≡ folded_windo
         by_sign : (test : Bool) → eqb ((half * k) % turn) quarter_turn ≡ test → cond test ahead_sum (neg_ℤ ahead_sum) ≡ line_sum table_sine window k
         by_sign true one =
             same
-            ∙ sym (sine-ahead half k (half_le k half ends) (folded_window window) (eqb-true _ _ one))
+            ∙ sym (sine-ahead half k ends.most (folded_window window) (eqb-true _ _ one))
             ∙ sine-places
         by_sign false three =
             ap neg_ℤ same
-            ∙ sym (sine-ahead-opposite half k (half_le k half ends) (folded_window window) (one-or-three (half * k) ends.odd (eqb-false _ _ three)))
+            ∙ sym (sine-ahead-opposite half k ends.most (folded_window window) (one-or-three (half * k) ends.odd (eqb-false _ _ three)))
             ∙ sine-places
 
   pub line-0-sum : place_sum 0 2 (held_by folded) (cosine_of 0) ≡ line_sum table_cosine window 0
@@ -173,12 +115,62 @@ no-sine window =
     ∙ sum_to-*ℤ window_length (pos 0) (λ j. pos 0)
     ∙ zero-*ℤ (sum_to window_length (λ j. pos 0))
 
-nothing : square (nearestℤ (pos 0) sum_scale) ≡ 0
-unfolding square nearestℤ floor_over
-nothing = refl
+-- the cosine of 0 is the full scale
+cosine-at-0 : nat_abs (table_cosine 0) ≡ full_scale
+unfolding table_cosine table_sine over_turn over_half table_entry nearest quarter_sine added taken_away term factorial denominator
+cosine-at-0 = refl
 
-pub line-0-is : (window : List ℤ) → square (rounded_sum table_cosine window 0) ≡ line_of window 0
-unfolding line_of rounded_sum
-line-0-is window =
-    let cosine = square (nearestℤ (line_sum table_cosine window 0) sum_scale) in
-    sym (add-zero cosine) ∙ ap (λ n. cosine + n) (sym (ap (λ sum. square (nearestℤ sum sum_scale)) (no-sine window) ∙ nothing))
+module _ (folded : List ℤ) where
+  abbrev f : ℕ → ℤ
+  f = held_by folded
+
+  -- a line that ends at half
+  module _ (k half : ℕ) (ends : EndsAt k half) (sum : ℤ) where
+    pub cosine-of-folded : sum ≡ place_sum (suc half) half f (cosine_of k) → SumOfFolded table_cosine folded k sum
+    cosine-of-folded is window is-folded = is ∙ cosine-is folded window is-folded k half ends
+
+    pub sine-of-folded : sum ≡ place_sum (suc half) half (ahead f half) (cosine_of k) → SumOfFolded table_sine folded k (cond (eqb ((half * k) % turn) quarter_turn) sum (neg_ℤ sum))
+    sine-of-folded is window is-folded = ap (λ z. cond (eqb ((half * k) % turn) quarter_turn) z (neg_ℤ z)) is ∙ sine-is folded window is-folded k half ends
+
+  -- line 0: over the two places that are left the cosine is that of 0
+  two-places : (f 0 +ℤ f 1) *ℤ table_cosine 0 ≡ place_sum 0 2 f (cosine_of 0)
+  unfolding place_sum sum_to
+  two-places = +ℤ-*ℤ (f 0) (f 1) (table_cosine 0) ∙ sym (ap (λ z. z +ℤ f 1 *ℤ table_cosine 0) (+ℤ_idl (f 0 *ℤ table_cosine 0)))
+
+  pub cosine-of-0 : SumOfFolded table_cosine folded 0 ((f 0 +ℤ f 1) *ℤ table_cosine 0)
+  cosine-of-0 window is-folded = two-places ∙ line-0-sum folded window is-folded
+
+  pub sine-of-0 : SumOfFolded table_sine folded 0 (pos 0)
+  sine-of-0 window is-folded = sym (no-sine window)
+
+  -- a folded window in range has such small numbers
+  pub sums-fit : (window : List ℤ) → InRange window → f ≡ folded_window window → SumsFit f
+  sums-fit window in-range is-folded = record {
+    left = λ c few p above below.
+        let held : f p ≡ folded_window window p = ap (λ g. g p) is-folded in
+        rw held (folded_window-left window in-range.samples c few p above below);
+    last_two = last-two;
+  }
+    where
+      product : nat_abs (f 0 +ℤ f 1) * nat_abs (table_cosine 0) ≡ nat_abs (line_sum table_cosine window 0)
+      product = sym (nat_abs-*ℤ (f 0 +ℤ f 1) (table_cosine 0)) ∙ ap nat_abs (cosine-of-0 window is-folded)
+
+      last-two : nat_abs (f 0 +ℤ f 1) < 2 ^ 28
+      last-two = omega (arith, rw cosine-at-0 at product, line_sum-le window in-range.samples table_cosine table_cosine-le 0)
+
+  -- so the sum of line 0 is small
+  pub last-sum-small : SumsFit f → nat_abs ((f 0 +ℤ f 1) *ℤ table_cosine 0) < 2 ^ 58
+  last-sum-small fit = rw (nat_abs-*ℤ, cosine-at-0) (omega (arith, fit.last_two))
+
+  -- and is the product that the machine reads from bits
+  pub last-sum-read : (wave : List ℤ) (product : ℤ) → SumsFit f → wave ≡ wave_list → SFits w32 (f 0) → SFits w32 (f 1) →
+      product ≡ read w32 (read w32 (f 0) +ℤ read w32 (f 1)) *ℤ read w32 (held_by wave quarter_turn) →
+      read w64 product ≡ (f 0 +ℤ f 1) *ℤ table_cosine 0
+  unfolding table_cosine
+  last-sum-read wave product fit one-turn fits-0 fits-1 product-is =
+      let two = f 0 +ℤ f 1 in
+      let factor : read w32 (held_by wave quarter_turn) ≡ table_cosine 0 =
+      rw one-turn (ap (read w32) (wave_list-at quarter_turn (omega arith)) ∙ to_z-of_z w32 (table_cosine 0) (sfits-nat_abs w32 (table_cosine 0) (omega (arith, cosine-at-0)))) in
+      let number : read w32 (read w32 (f 0) +ℤ read w32 (f 1)) ≡ two =
+      ap₂ (λ a b. read w32 (a +ℤ b)) (to_z-of_z w32 (f 0) fits-0) (to_z-of_z w32 (f 1) fits-1) ∙ to_z-of_z w32 two (sfits-nat_abs w32 two (omega (arith, fit.last_two))) in
+      rw (product-is ∙ ap₂ ◌*ℤ◌ number factor) (sum_read (two *ℤ table_cosine 0) (last-sum-small fit))

@@ -5,7 +5,6 @@ use mathlib.Core.Path.{◌≡◌, refl}
 use Prim.Native.Nat.{ℕ, ◌-◌, ◌^◌}
 use lib.IntN.{ℤ, pos, negsuc}
 use lib.ListN.{replicate}
-use Rattle.algebra.specs.Lists.{any_of}
 use Rattle.windows.specs.Window.{window_at, out_of_range}
 use Rattle.spectrum.specs.Spectrum.{spectrum_refusal, spectrum_exit}
 use Rattle.spectral_lines.specs.Calls.{lines_from_refusal, lines_from_exit}
@@ -59,7 +58,7 @@ called c =
     (spectrum_refusal c.recording c.start (sevens c), spectrum_exit c.recording c.start (sevens c))
 
 taken-worked : map (λ c. (called c).0) taken ≡ map (λ c. c.refusal) taken
-unfolding spectrum_refusal window_at any_of out_of_range
+unfolding spectrum_refusal window_at out_of_range
 taken-worked = refl
 
 -- a refused call leaves what it was lent
@@ -67,7 +66,7 @@ abbrev expected : Case → ℕ × List ℕ
 expected c = (c.refusal, sevens c)
 
 refused-worked : map called refused ≡ map expected refused
-unfolding spectrum_refusal spectrum_exit window_at any_of out_of_range
+unfolding spectrum_refusal spectrum_exit window_at out_of_range
 refused-worked = refl
 
 -- ---- a part of the lines
@@ -116,9 +115,9 @@ part_called c =
     (lines_from_refusal c.recording 0 c.first (part_sevens c), lines_from_exit c.recording 0 c.first (part_sevens c))
 
 taken_parts-worked : map (λ c. (part_called c).0) taken_parts ≡ map (λ c. c.refusal) taken_parts
-unfolding lines_from_refusal window_at any_of out_of_range
+unfolding lines_from_refusal window_at out_of_range
 taken_parts-worked = refl
 
 refused_parts-worked : map part_called refused_parts ≡ map (λ c. (c.refusal, part_sevens c)) refused_parts
-unfolding lines_from_refusal lines_from_exit window_at any_of out_of_range
+unfolding lines_from_refusal lines_from_exit window_at out_of_range
 refused_parts-worked = refl

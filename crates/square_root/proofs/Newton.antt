@@ -1,13 +1,15 @@
 -- Newton's iteration for the whole part of a square root: what one step keeps of a candidate r for the root of n, what the first candidate is, and that the last one is the root.
-use mathlib.Core.Path.{sym, subst}
+use mathlib.Core.Path.{◌≡◌, refl, sym, subst}
 use Prim.Native.Nat.{ℕ, ◌+◌, ◌*◌, ◌/◌, ◌%◌, ◌^◌, ◌≤◌, ◌<◌}
 use native.Mathlib.Nat.{mul-le-mul, mul-le-mul_left, mul-le-mul_right, lt-mul-div-succ, le-div_iff_mul-le, mod-eq_of_lt}
 use native.Mathlib.Decide.{dec_le}
 use native.Mathlib.Omega.{arith}
 use lib.Count.{count_leading_zeros, leading_length}
 use lib.Pow.{pow_pos, pow_mono, pow-add}
+use Rattle.algebra.specs.Largest.{largest}
 use Rattle.algebra.proofs.Weighted.{double-product-le}
-use Rattle.square_root.proofs.RootLaws.{Root}
+use Rattle.square_root.specs.Root.{root_of}
+use Rattle.square_root.proofs.RootLaws.{Root, root-unique, lt-root_limit}
 
 -- A candidate for the root of n: above 0, not below the root, and at most 2^32.
 pub record Candidate (n r : ℕ) : Type 0 where
@@ -63,3 +65,13 @@ first-candidate n s small half most =
     let square : n < 2 ^ s * 2 ^ s = subst (λ (p : ℕ). n < p) (pow-add 2 s s) (omega (arith, digits.2)) in
     subst (Candidate n) (sym (mod-eq_of_lt (omega arith)))
     (subst (Candidate n) (omega arith) record { above_zero = pow_pos s; not-below = omega arith; bounded = bound })
+
+pub last-is-root : (n r : ℕ) → n < 2 ^ 64 → Candidate n r → r ≤ n / r → r ≡ root_of n
+last-is-root n r small candidate le = root-unique n r (lt-root_limit n small) (last-candidate n r candidate le)
+
+pub root-of-zero : root_of 0 ≡ 0
+unfolding root_of largest
+root-of-zero = refl
+
+-- what `root` rests on
+pub ruleset newton = (first-candidate, step-candidate, last-is-root, root-of-zero)

@@ -9,10 +9,11 @@ use native.Mathlib.Omega.{arith, by_contra}
 use borrow.Author.Tests.{ltb-false, not-false}
 use lib.ListN.{length, get_or}
 use Rattle.algebra.proofs.Largest.{Bounded, largest-le, largest-ge, largest-eq}
+use Rattle.algebra.proofs.Filling.{filled_more, filled-whole}
 use Rattle.square_root.specs.Root.{root_of}
 use Rattle.square_root.proofs.RootLaws.{root-law, lt-root_limit}
 use Rattle.wide_numbers.specs.Squares.{sum_of_squares}
-use Rattle.wide_numbers.proofs.SumsOfSquares.{sum_of_squares-le, mean-bounded}
+use Rattle.wide_numbers.proofs.SumsOfSquares.{sum_of_squares-drop, sum_of_squares-end, square-lt, sum_of_squares-le, mean-bounded}
 use Rattle.refusals.specs.Numbers.{no_refusal, unsound_record, order_out_of_range, too_few_windows}
 use Rattle.refusals.proofs.Answers.{no-faults}
 use Rattle.rows.specs.Orders.{order_count}
@@ -21,6 +22,12 @@ use Rattle.records.specs.declared.Observation.{Observation}
 use Rattle.latest_rows.specs.Latest.{rows_kept}
 use Rattle.records.specs.Soundness.{is_sound}
 use Rattle.three_seconds.specs.ThreeSecond.{three_second_digits, three_second_of, three_second_checks, three_second_refusal}
+
+-- a list is filled place by place
+pub ruleset filling = (filled_more, filled-whole)
+
+-- a sum of squares is worked out square by square
+pub ruleset squares = (sum_of_squares-drop, sum_of_squares-end, square-lt, sum_of_squares-le)
 
 -- "15×t² at most the sum of the 15 squared group values"
 abbrev pub Passes : List ℕ → ℕ → Type 0
@@ -57,6 +64,9 @@ module _ (values : List ℕ) (whole : length values ≡ 15) (fit : (i : ℕ) →
       largest-eq (λ t. rows_kept * (t * t)) (sum_of_squares values) three_second_digits bounded
       (omega (arith, root.0))
       (omega (arith, root.1))
+
+-- so the root is the figure
+pub ruleset figures = (three-second-root)
 
 -- ---- a call that is not refused
 

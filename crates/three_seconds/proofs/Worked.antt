@@ -4,9 +4,9 @@ use mathlib.Core.Path.{◌≡◌, refl}
 use Prim.Native.Nat.{ℕ, ◌+◌}
 use lib.ListN.{replicate}
 use Rattle.algebra.specs.Largest.{largest}
-use Rattle.algebra.specs.Lists.{tabulate, joined, any_of}
+use Rattle.algebra.specs.Lists.{tabulate, joined}
 use Rattle.algebra.specs.Weighted.{sum_over}
-use Rattle.refusals.specs.declared.Answer.{Answer}
+use Rattle.refusals.specs.Answers.{Answer}
 use Rattle.rows.specs.Systems.{is_system}
 use Rattle.rows.specs.Editions.{is_edition}
 use Rattle.rows.specs.Setups.{setup_of, is_setup}
@@ -116,5 +116,5 @@ calls =
     []
 
 calls-worked : map (λ c. three_second_answer c.observation c.order) calls ≡ map (λ c. c.answered) calls
-unfolding three_second_answer three_second_refusal three_second_of sum_of_squares sum_over largest latest_values tabulate joined any_of is_sound is_setup is_system is_edition is_order none_above all_zero
+unfolding three_second_answer three_second_refusal three_second_of sum_of_squares sum_over largest latest_values tabulate joined is_sound is_setup is_system is_edition is_order none_above all_zero
 calls-worked = refl

@@ -2,8 +2,7 @@
 use Rattle.std.specs.Prelude.{Bool, List, [], ◌∷◌, ℕ, ◌-◌, ◌*◌, leb, ltb}
 use Rattle.algebra.specs.Largest.{largest}
 use Rattle.refusals.specs.Numbers.{too_few_windows}
-use Rattle.refusals.specs.Answers.{first_fault, answer}
-use Rattle.refusals.specs.declared.Answer.{Answer}
+use Rattle.refusals.specs.Answers.{first_fault, Answer, answer}
 use Rattle.rows.specs.Orders.{order_check}
 use Rattle.wide_numbers.specs.Squares.{sum_of_squares}
 use Rattle.records.specs.declared.Observation.{Observation}

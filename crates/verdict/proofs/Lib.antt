@@ -2,5 +2,6 @@
 pub mod Worked
 pub mod Limits
 pub mod Verdicts
+pub mod Held
 pub mod ClassA
 pub mod ClassB

@@ -25,9 +25,8 @@ use Rattle.limit_tests.proofs.TestLaws.{within-le, over-gt, neither-touches}
 use Rattle.verdict.specs.declared.Question.{Question}
 use Rattle.verdict.specs.declared.Verdict.{Verdict}
 use Rattle.verdict.specs.declared.Verdict.TheVariants.{Within, Close, Over}
-use Rattle.verdict.specs.declared.VerdictAnswer.TheVariants.{Given}
 use Rattle.verdict.specs.Question.{largest_scale}
-use Rattle.verdict.specs.Call.{combined, verdict_in, verdict_of, verdict_checks, verdict_refusal, verdict_answer, order_number}
+use Rattle.verdict.specs.Call.{Given, combined, verdict_in, verdict_of, verdict_checks, verdict_refusal, verdict_answer, order_number}
 
 -- ---- a call that is not refused
 

@@ -4,7 +4,6 @@ use mathlib.Core.Path.{◌≡◌, refl}
 use mathlib.Core.List.{List, [], ◌∷◌, map}
 use Prim.Native.Nat.{ℕ}
 use Rattle.algebra.specs.Fraction.{whole, times, divide}
-use Rattle.algebra.specs.Lists.{any_of}
 use Rattle.rows.specs.Systems.{is_system}
 use Rattle.rows.specs.Editions.{is_edition}
 use Rattle.rows.specs.Setups.{setup_of, is_setup}
@@ -15,15 +14,13 @@ use Rattle.records.specs.Average.{average_of, peak_of}
 use Rattle.records.proofs.WorkedRecords.{worked_record, only}
 use Rattle.verdict.specs.declared.Verdict.{Verdict}
 use Rattle.verdict.specs.declared.Verdict.TheVariants.{Within, Close, Over}
-use Rattle.verdict.specs.declared.VerdictAnswer.{VerdictAnswer}
-use Rattle.verdict.specs.declared.VerdictAnswer.TheVariants.{Given, Refused}
 use Rattle.verdict.specs.Question.{asked}
 use Rattle.fractions.specs.Parts.{raised, at_most}
 use Rattle.classes.specs.Letters.{letter_of, is_class, class_with}
 use Rattle.limits.specs.Limit.{own_figures, over_order, figure_in, class_a_limit, limit_of}
 use Rattle.limit_tests.specs.Limit.{limit_in_units, peak_limit_in_units}
 use Rattle.limit_tests.specs.Tests.{is_within, is_over}
-use Rattle.verdict.specs.Call.{combined, verdict_in, verdict_refusal, verdict_answer, refusal_number, order_number}
+use Rattle.verdict.specs.Call.{VerdictAnswer, Given, Refused, combined, verdict_in, verdict_refusal, verdict_answer, refusal_number, order_number}
 
 -- ---- the verdicts
 
@@ -116,7 +113,7 @@ verdict_cases =
     []
 
 verdicts-worked : map (λ row. row.0) verdict_cases ≡ map (λ row. row.1) verdict_cases
-unfolding verdict_cases observed one_window empty_record is_setup is_system is_edition any_of none_above all_zero is_sound whole times divide limit_of class_a_limit figure_in own_figures over_order limit_in_units peak_limit_in_units raised at_most is_within is_over average_of peak_of combined verdict_in verdict_refusal verdict_answer is_class class_with letter_of
+unfolding verdict_cases observed one_window empty_record is_setup is_system is_edition none_above all_zero is_sound whole times divide limit_of class_a_limit figure_in own_figures over_order limit_in_units peak_limit_in_units raised at_most is_within is_over average_of peak_of combined verdict_in verdict_refusal verdict_answer is_class class_with letter_of
 verdicts-worked = refl
 
 -- ---- the numbers of the cases

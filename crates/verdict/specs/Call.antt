@@ -1,8 +1,9 @@
 -- What the call `order_verdict` answers (document 01, "Class A verdicts" and the refusal table's row "verdict"; document 02, card 1).
-use Rattle.std.specs.Prelude.{Bool, cond, not, ◌&&◌, ◌||◌, List, [], ◌∷◌, ℕ, eqb}
+use Rattle.std.specs.Prelude.{Bool, cond, not, ◌&&◌, ◌||◌, List, [], ◌∷◌, ℕ, eqb, Result, Ok, Err}
 use Rattle.algebra.specs.Fraction.{Fraction}
 use Rattle.refusals.specs.Numbers.{no_refusal, no_window, scale_out_of_range}
-use Rattle.refusals.specs.Answers.{first_fault, unless_refused}
+use Rattle.refusals.specs.Answers.{first_fault, unless_refused, number_of}
+use Rattle.refusals.specs.declared.Refusal.{Refusal}
 use Rattle.records.specs.declared.Observation.{Observation}
 use Rattle.records.specs.Soundness.{sound_first}
 use Rattle.records.specs.Average.{average_of, peak_of}
@@ -15,8 +16,6 @@ use Rattle.limit_tests.specs.Tests.{is_within, is_over}
 use Rattle.verdict.specs.declared.Question.{Question}
 use Rattle.verdict.specs.declared.Verdict.{Verdict}
 use Rattle.verdict.specs.declared.Verdict.TheVariants.{Within, Close, Over}
-use Rattle.verdict.specs.declared.VerdictAnswer.{VerdictAnswer}
-use Rattle.verdict.specs.declared.VerdictAnswer.TheVariants.{Given, Refused}
 use Rattle.verdict.specs.Question.{class_asked, is_scale}
 
 -- "over if either test is, within if both are, else close", each case with the order
@@ -59,9 +58,19 @@ verdict_checks o q = sound_first o (question_checks o.windows q)
 unfoldable pub verdict_refusal : Observation → Question → ℕ
 verdict_refusal o q = first_fault (verdict_checks o q)
 
+-- what document 01 has the call answer: a verdict, or the number of a refusal
+pub data VerdictAnswer : Type 0 where
+  Given : Verdict → VerdictAnswer
+  Refused : ℕ → VerdictAnswer
+
 -- "a refused verdict: the number alone"
 unfoldable pub verdict_answer : Observation → Question → VerdictAnswer
 verdict_answer o q = unless_refused (verdict_refusal o q) (Given (verdict_of o q)) (Refused (verdict_refusal o q))
+
+-- what a result of the code answers
+abbrev pub verdict_answer_of : Result Verdict Refusal → VerdictAnswer
+verdict_answer_of (Ok verdict) = Given verdict
+verdict_answer_of (Err refusal) = Refused (number_of refusal)
 
 -- document 01's number of an answer: that of the refusal, 0 for a verdict
 unfoldable pub refusal_number : VerdictAnswer → ℕ

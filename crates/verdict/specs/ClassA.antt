@@ -10,10 +10,8 @@ use Rattle.fractions.specs.Parts.{parts}
 use Rattle.limits.specs.Limit.{has_limit, class_a_limit, three_halves}
 use Rattle.limit_tests.specs.Limit.{in_units}
 use Rattle.verdict.specs.declared.Verdict.{Verdict}
-use Rattle.verdict.specs.declared.VerdictAnswer.{VerdictAnswer}
-use Rattle.verdict.specs.declared.VerdictAnswer.TheVariants.{Given, Refused}
 use Rattle.verdict.specs.Question.{is_scale}
-use Rattle.verdict.specs.Call.{combined}
+use Rattle.verdict.specs.Call.{VerdictAnswer, Given, Refused, combined}
 
 -- "The limit in units is the m_a figure × K / 1000"
 abbrev pub limit01 : ℕ → ℕ → Fraction

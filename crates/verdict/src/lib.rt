@@ -6,8 +6,8 @@ mod call;
 pub use call::order_verdict;
 
 // What is asked: a harmonic order, the letter of a class, and the units per ampere, K, in which the record
-// counts.
-#[derive(Clone, Copy)]
+// counts. Each is a number, since 6, 15 and 11 are the answers to those that stand for nothing.
+#[derive(Clone, Copy, Debug, PartialEq, Eq)]
 pub struct Question {
     pub order: u32,
     pub letter: u8,
@@ -15,16 +15,9 @@ pub struct Question {
 }
 
 // Document 01's three cases, each with its order.
-#[derive(Clone, Copy)]
+#[derive(Clone, Copy, Debug, PartialEq, Eq)]
 pub enum Verdict {
     Within(u32),
     Close(u32),
     Over(u32),
-}
-
-// A verdict, or the number of the refusal alone.
-#[derive(Clone, Copy)]
-pub enum VerdictAnswer {
-    Given(Verdict),
-    Refused(u32),
 }

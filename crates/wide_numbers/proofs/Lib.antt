@@ -1,2 +1,3 @@
 -- The laws of sums of squares and their roots.
 pub mod SumsOfSquares
+mod Wide

@@ -3,3 +3,4 @@ pub mod Range
 pub mod Samples
 pub mod Accepted
 pub mod Worked
+pub mod ShortWindow

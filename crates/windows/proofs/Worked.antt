@@ -5,7 +5,6 @@ use mathlib.Core.Path.{◌≡◌, refl}
 use Prim.Native.Nat.{ℕ, ◌-◌, ◌^◌}
 use lib.IntN.{ℤ, pos, negsuc}
 use lib.ListN.{length, replicate}
-use Rattle.algebra.specs.Lists.{any_of}
 use Rattle.windows.specs.Window.{window_at, sample_at, out_of_range}
 use Rattle.windows.specs.Checks.{window_refusal}
 
@@ -46,5 +45,5 @@ cases =
     []
 
 cases-worked : map (λ c. c.0) cases ≡ map (λ c. c.1) cases
-unfolding window_refusal window_at any_of out_of_range
+unfolding window_refusal window_at out_of_range
 cases-worked = refl

@@ -1,6 +1,6 @@
 -- The window of a recording and the range of its samples (document 01, "From samples to spectrum").
 use Rattle.std.specs.Prelude.{Bool, false, List, ◌≡◌, ℕ, ltb, ℤ, pos, nat_abs, length, get_or, take, drop}
-use Rattle.algebra.specs.Lists.{any_of}
+use Rattle.std.specs.List.{list_any}
 
 -- samples in a window
 abbrev pub window_length : ℕ
@@ -24,4 +24,4 @@ out_of_range sample = ltb largest_sample (nat_abs sample)
 -- a window in range: all its 2,048 samples are
 pub record InRange (window : List ℤ) : Type 0 where
   pub whole-window : length window ≡ window_length
-  pub samples : any_of out_of_range window ≡ false
+  pub samples : list_any out_of_range window ≡ false

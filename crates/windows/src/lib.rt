@@ -1,83 +1,67 @@
 // The window: a part of the lent recording, from its middle; the range of its samples; the checks of a call that is lent a recording; and what a sample is multiplied by.
-// Every function takes whatever it is handed.
+// Every function takes whatever it is handed. A recording goes with a start, since document 01 has a window begin anywhere in a lent recording.
 #![tactic(auto)]
 
-ghost use Rattle.std.specs.Prelude.{◌≡◌, min, ◌*ℤ◌};
-ghost use Rattle.algebra.specs.Lists.{any_of};
+ghost use Rattle.std.specs.Prelude.{◌≡◌, ◌*ℤ◌, IfOk};
+ghost use Rattle.std.specs.List.{list_any};
+ghost use Rattle.refusals.specs.Answers.{refusal_of};
 ghost use Rattle.windows.specs.Window.{window_at, out_of_range};
 ghost use Rattle.windows.specs.Checks.{window_refusal};
 
-use refusals::{NO_REFUSAL, SAMPLE_OUT_OF_RANGE, SHORT_WINDOW, WRONG_LINE_COUNT, fault_or};
+use refusals::{Refusal, refuse_if};
 
 // Samples in a window.
 pub const WINDOW_LENGTH: usize = 2048;
 // The largest sample; the smallest is its negative.
-const LARGEST_SAMPLE: i32 = 131071;
-// The same at the width of a number that was read from a text.
-const LARGEST_NUMBER: i64 = LARGEST_SAMPLE as i64;
-
-// The lesser of the two.
-pub fn lesser(a: usize, b: usize) -> usize
-    ensures { result ≡ min a b }
-{
-    if a < b { a } else { b }
-}
+const LARGEST_SAMPLE: i64 = 131071;
 
 // The samples from `start` on, at most 2,048 of them: fewer, or none, where the recording ends before.
 pub fn window_at(recording: &[i32], start: usize) -> &[i32]
     ensures { result.now ≡ window_at recording.now start }
 {
-    let first = lesser(start, recording.len());
-    let end = first + lesser(WINDOW_LENGTH, recording.len() - first);
+    let first = start.min(recording.len());
+    let end = first + WINDOW_LENGTH.min(recording.len() - first);
     &recording[first..end]
 }
 
-// A number that was read from a text is out of a sample's range.
+// A number is out of a sample's range: a sample, or what was read from a text.
 pub fn out_of_range(number: i64) -> bool
     ensures { result ≡ out_of_range number }
 {
-    (number < -LARGEST_NUMBER) | (LARGEST_NUMBER < number)
-}
-
-// A sample is out of range.
-fn is_outside(sample: i32) -> bool
-    ensures { result ≡ out_of_range sample }
-{
-    (sample < -LARGEST_SAMPLE) | (LARGEST_SAMPLE < sample)
+    (number < -LARGEST_SAMPLE) | (LARGEST_SAMPLE < number)
 }
 
 // Some sample of the window is out of range. All are looked at, so that the loop has no branch.
 pub fn any_out_of_range(window: &[i32]) -> bool
-    ensures { result ≡ any_of out_of_range window.now }
+    ensures { result ≡ list_any out_of_range window.now }
 {
     let mut found = false;
-    let mut j = 0;
-    while j < window.len() {
-        found = found | is_outside(window[j]);
-        j += 1;
+    for sample in window {
+        found |= out_of_range(i64::from(*sample));
     }
     found
 }
 
-// The row of checks of each call for a window's lines, of which the test of the buffer's length is the call's own.
-pub fn window_refusal(recording: &[i32], start: usize, wrong_count: bool) -> u32
-    ensures { result ≡ window_refusal recording.now start wrong_count }
+// The window of a call for its lines, where the row of checks finds no fault. The test of the buffer's length is the call's own.
+#[tactic(auto, using(crate::proofs::ShortWindow::short_test), unfolding(crate::specs::Checks::window_refusal))]
+pub fn accepted_window(
+    recording: &[i32],
+    start: usize,
+    wrong_count: bool,
+) -> Result<&[i32], Refusal>
+    ensures value { refusal_of result ≡ window_refusal recording.now start wrong_count }
+    ensures window { IfOk result (λ window. window.now ≡ window_at recording.now start) }
 {
     let window = window_at(recording, start);
-    fault_or(
-        window.len() < WINDOW_LENGTH,
-        SHORT_WINDOW,
-        fault_or(
-            wrong_count,
-            WRONG_LINE_COUNT,
-            fault_or(any_out_of_range(window), SAMPLE_OUT_OF_RANGE, NO_REFUSAL),
-        ),
-    )
+    refuse_if(window.len() < WINDOW_LENGTH, Refusal::ShortWindow)?;
+    refuse_if(wrong_count, Refusal::WrongLineCount)?;
+    refuse_if(any_out_of_range(window), Refusal::SampleOutOfRange)?;
+    Ok(window)
 }
 
 // The product of two numbers of 32 bits, a sample and what it is multiplied by: 64 bits hold it.
 pub fn product(a: i32, b: i32) -> i64
     ensures { result ≡ a *ℤ b }
 {
-    (a as i64) * (b as i64)
+    i64::from(a) * i64::from(b)
 }

@@ -7,7 +7,7 @@ use borrow.Author.Tests.{le-ltb}
 use lib.IntN.{ℤ, pos, nat_abs}
 use lib.ListN.{length, get_or}
 use Rattle.algebra.specs.Weighted.{Everywhere}
-use Rattle.algebra.proofs.Lists.{any_of-false}
+use Rattle.algebra.proofs.Lists.{list_any-false}
 use Rattle.spectral_lines.specs.Line.{lines_of}
 use Rattle.windows.specs.Window.{out_of_range, InRange}
 use Rattle.rows.specs.declared.Setup.{Setup}
@@ -26,7 +26,7 @@ unfolding out_of_range
 window-any window whole fit =
     record {
       whole-window = whole;
-      samples = any_of-false out_of_range window (pos 0) (λ j inside. le-ltb 131071 (nat_abs (get_or window j (pos 0))) (fit j (omega (arith, inside, whole))));
+      samples = list_any-false out_of_range window (pos 0) (λ j inside. le-ltb 131071 (nat_abs (get_or window j (pos 0))) (fit j (omega (arith, inside, whole))));
     }
 
 -- the values of such a window's lines, of any kind, are with any setup a row that is worked from samples

@@ -6,11 +6,12 @@ use Prim.Native.Nat.{ℕ, suc, ◌+◌}
 use native.Mathlib.Omega.{arith}
 use lib.ListN.{replicate}
 use Rattle.algebra.specs.Largest.{largest}
-use Rattle.algebra.specs.Lists.{tabulate, any_of}
+use Rattle.algebra.specs.Lists.{tabulate}
+use Rattle.std.specs.List.{list_any}
 use Rattle.algebra.specs.Weighted.{sum_over}
 use Rattle.algebra.proofs.Lists.{tabulate-first, tabulate-same}
 use Rattle.square_root.specs.Root.{root_of}
-use Rattle.refusals.specs.declared.Answer.{Answer}
+use Rattle.refusals.specs.Answers.{Answer}
 use Rattle.rows.specs.Editions.{is_edition}
 use Rattle.rows.specs.Setups.{setup_of, is_setup}
 use Rattle.rows.specs.Systems.{is_system}
@@ -56,7 +57,7 @@ Called system edition row =
 
 pub panel-of-pulse :
     Called 10 0 (replicate 40 8944) × Called 12 0 (replicate 40 9797) × Called 10 1 (2828 ∷ replicate 39 8944) × Called 12 1 (2828 ∷ replicate 39 9797)
-unfolding pulse panel_call_refusal panel_call_lines_exit panel_call_values_exit panel_refusal is_setup is_system is_edition window_at out_of_range any_of value_over root_of largest span_of grouped_as weights_in weighted_sum sum_over tabulate
+unfolding pulse panel_call_refusal panel_call_lines_exit panel_call_values_exit panel_refusal is_setup is_system is_edition window_at out_of_range value_over root_of largest span_of grouped_as weights_in weighted_sum sum_over tabulate
 panel-of-pulse = (
   (refl, refl, pulse-row 10 0 8944 8944 refl refl (λ order. refl)),
   (refl, refl, pulse-row 12 0 9797 9797 refl refl (λ order. refl)),

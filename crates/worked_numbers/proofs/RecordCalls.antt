@@ -5,7 +5,8 @@ use mathlib.Core.List.{List, [], ◌∷◌, ◌++◌}
 use Prim.Native.Nat.{ℕ, ◌+◌, ◌^◌}
 use lib.ListN.{replicate}
 use Rattle.algebra.specs.Largest.{largest}
-use Rattle.algebra.specs.Lists.{tabulate, any_of, joined}
+use Rattle.algebra.specs.Lists.{tabulate, joined}
+use Rattle.std.specs.List.{list_any}
 use Rattle.algebra.specs.Weighted.{sum_over}
 use Rattle.algebra.specs.Rounding.{nearest}
 use Rattle.algebra.specs.Fraction.{whole, times, divide}
@@ -106,7 +107,7 @@ verdicts-worked :
     (verdict_for (10 ∷ 1 ∷ 1 ∷ replicate 419 0) 3 65 1000000, (102, 77)) ∷
     (verdict_for (10 ∷ 1 ∷ 1 ∷ replicate 421 0) 3 65 1000000, (102, 77)) ∷
     [])
-unfolding Alike verdict_for record_with verdict_call_refusal verdict_call_exit verdict_number record_of of_parts parts_from words_from unpacked tabulate verdict_refusal verdict_in average_of peak_of combined raised at_most is_over is_within limit_in_units peak_limit_in_units is_class class_with letter_of limit_of class_a_limit figure_in own_figures over_order whole times divide is_sound is_setup is_system is_edition none_above all_zero any_of
+unfolding Alike verdict_for record_with verdict_call_refusal verdict_call_exit verdict_number record_of of_parts parts_from words_from unpacked tabulate verdict_refusal verdict_in average_of peak_of combined raised at_most is_over is_within limit_in_units peak_limit_in_units is_class class_with letter_of limit_of class_a_limit figure_in own_figures over_order whole times divide is_sound is_setup is_system is_edition none_above all_zero
 verdicts-worked = refl
 
 -- ---- kifsang_three_second_value
@@ -145,7 +146,7 @@ three-seconds-worked :
     (three_second_for (10 ∷ 1 ∷ 15 ∷ replicate 419 0) 1, (102, 77)) ∷
     (three_second_for (10 ∷ 1 ∷ 15 ∷ replicate 421 0) 1, (102, 77)) ∷
     [])
-unfolding Alike three_second_for record_keeping record_with threes_and_fours three_second_call_refusal three_second_call_exit three_second_refusal three_second_of sum_of_squares sum_over largest latest_values record_of of_parts parts_from words_from unpacked tabulate joined is_order is_sound is_setup is_system is_edition none_above all_zero any_of
+unfolding Alike three_second_for record_keeping record_with threes_and_fours three_second_call_refusal three_second_call_exit three_second_refusal three_second_of sum_of_squares sum_over largest latest_values record_of of_parts parts_from words_from unpacked tabulate joined is_order is_sound is_setup is_system is_edition none_above all_zero
 three-seconds-worked = refl
 
 -- ---- kifsang_add_row
@@ -189,5 +190,5 @@ add-rows-worked :
     (add_for (record_with 1 7) 10 1 (replicate 39 1), (102, record_with 1 7)) ∷
     (add_for (record_with 1 7) 10 1 (replicate 41 1), (102, record_with 1 7)) ∷
     [])
-unfolding Alike add_for record_with add_row_call_refusal add_row_call_exit record_of of_parts parts_from words_from unpacked words_of parts_of packed joined add_row_refusal row_checks same_setup with_row with_latest first_values next_book book_at book_step smoothed_next smoothed_value nearest tabulate is_sound is_setup is_system is_edition none_above all_zero any_of
+unfolding Alike add_for record_with add_row_call_refusal add_row_call_exit record_of of_parts parts_from words_from unpacked words_of parts_of packed joined add_row_refusal row_checks same_setup with_row with_latest first_values next_book book_at book_step smoothed_next smoothed_value nearest tabulate is_sound is_setup is_system is_edition none_above all_zero
 add-rows-worked = refl

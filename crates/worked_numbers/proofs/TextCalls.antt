@@ -7,7 +7,7 @@ use Prim.Native.String.{String}
 use lib.IntN.{ℤ, pos, negsuc}
 use lib.ListN.{replicate}
 use Rattle.columns.specs.Text.{bytes_of, right_justified}
-use Rattle.columns.specs.Column.{are_digits, is_whole, place_value, whole_number, negative_number, signed_number, after_blanks, column_number, decimal_within, decimal_text, number_text, column_text}
+use Rattle.columns.specs.Column.{is_whole, place_value, whole_number, negative_number, signed_number, after_blanks, column_number, decimal_within, decimal_text, number_text, column_text}
 use Rattle.columns.specs.Calls.{column_read_answer}
 use Rattle.listing.specs.Listing.{header, order_line, order_text, orders_text, listing_text, listing_refusal, listing_exit}
 use Rattle.exported_text.specs.ColumnCalls.{column_call_exit}
@@ -26,7 +26,7 @@ columns-worked :
     (column_for "       7 ", (13, pos 77)) ∷
     (column_for "      7", (13, pos 77)) ∷
     [])
-unfolding Alike column_for column_call_exit column_read_answer bytes_of are_digits is_whole place_value whole_number negative_number signed_number after_blanks column_number
+unfolding Alike column_for column_call_exit column_read_answer bytes_of is_whole place_value whole_number negative_number signed_number after_blanks column_number
 columns-worked = refl
 
 -- ---- kifsang_fill_listing

@@ -7,7 +7,7 @@ use native.Mathlib.Omega.{arith}
 use lib.ListN.{length, drop, replicate}
 use borrow.Author.Tests.{lt-ltb, le-ltb}
 use Rattle.algebra.specs.Fraction.{whole, divide, square, sumᶠ}
-use Rattle.refusals.specs.declared.Answer.{Answer}
+use Rattle.refusals.specs.Answers.{Answer}
 use Rattle.kinds.specs.declared.Kind.{Kind}
 use Rattle.rows.specs.declared.Setup.{Setup}
 use Rattle.groups.specs.Exact.{exact_group}

@@ -26,8 +26,7 @@ use Rattle.accuracy.proofs.VerdictsGiven.{not-refused}
 use Rattle.exported_judgements.specs.VerdictCall.{verdict_number, verdict_call_refusal, verdict_call_exit}
 use Rattle.exported_accuracy.specs.Claim.{WordsHold}
 use Rattle.verdict.specs.declared.Question.{Question}
-use Rattle.verdict.specs.declared.VerdictAnswer.TheVariants.{Given}
-use Rattle.verdict.specs.Call.{verdict_refusal, verdict_answer, order_number}
+use Rattle.verdict.specs.Call.{Given, verdict_refusal, verdict_answer, order_number}
 use Rattle.worked_numbers.proofs.EachSetup.{EachSetup, each-setup}
 
 module _ (kind : Kind) (list : CallList) (order num den k : ℕ) where

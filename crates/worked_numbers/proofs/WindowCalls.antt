@@ -7,7 +7,8 @@ use Prim.Native.Nat.{ℕ, ◌+◌, ◌^◌}
 use lib.IntN.{ℤ, pos}
 use lib.ListN.{replicate}
 use Rattle.algebra.specs.Largest.{largest}
-use Rattle.algebra.specs.Lists.{tabulate, any_of, joined}
+use Rattle.algebra.specs.Lists.{tabulate, joined}
+use Rattle.std.specs.List.{list_any}
 use Rattle.algebra.specs.Weighted.{sum_over}
 use Rattle.square_root.specs.Root.{root_of}
 use Rattle.kinds.specs.Kinds.{span_of, grouped_as}
@@ -65,7 +66,7 @@ group-values-worked :
     (group_value_of 4 10 0 40 (replicate 511 (2 ^ 59 + 1)), (4, 77)) ∷
     (group_value_of 4 10 0 40 (replicate 512 (2 ^ 59 + 1)), (5, 77)) ∷
     [])
-unfolding Alike group_value_of lines group_call_refusal group_call_exit is_kind kind_with kinds group_refusal is_system is_edition is_order group_value value_over root_of largest span_of grouped_as weights_in weighted_sum sum_over tabulate any_of
+unfolding Alike group_value_of lines group_call_refusal group_call_exit is_kind kind_with kinds group_refusal is_system is_edition is_order group_value value_over root_of largest span_of grouped_as weights_in weighted_sum sum_over tabulate
 group-values-worked = refl
 
 -- ---- kifsang_row
@@ -93,7 +94,7 @@ rows-worked :
     (row_for 1 10 0 (replicate 512 50) (replicate 39 7), (102, replicate 39 7)) ∷
     (row_for 1 12 1 (replicate 512 50) (replicate 41 7), (102, replicate 41 7)) ∷
     [])
-unfolding Alike row_for row_call_refusal row_call_exit is_kind kind_with kinds group_row_refusal group_refusal is_system is_edition is_order group_values group_answer group_value value_over root_of largest span_of grouped_as weights_in weighted_sum sum_over tabulate any_of
+unfolding Alike row_for row_call_refusal row_call_exit is_kind kind_with kinds group_row_refusal group_refusal is_system is_edition is_order group_values group_answer group_value value_over root_of largest span_of grouped_as weights_in weighted_sum sum_over tabulate
 rows-worked = refl
 
 -- ---- kifsang_distortion
@@ -140,7 +141,7 @@ panels-worked :
     (panel_for 10 0 (replicate 2048 (pos 5)) 0 (replicate 13 8) (replicate 39 7), (102, (replicate 13 8, replicate 39 7))) ∷
     (panel_for 12 1 (replicate 2048 (pos 5)) 0 (replicate 13 8) (replicate 41 7), (102, (replicate 13 8, replicate 41 7))) ∷
     [])
-unfolding Alike panel_for panel_call_refusal panel_call_lines_exit panel_call_values_exit panel_refusal is_system is_edition window_at out_of_range any_of
+unfolding Alike panel_for panel_call_refusal panel_call_lines_exit panel_call_values_exit panel_refusal is_system is_edition window_at out_of_range
 panels-worked = refl
 
 -- ---- kifsang_observe
@@ -167,5 +168,5 @@ observations-worked :
     (observe_for 1 10 0 (replicate 2048 (pos 5)) 0 1 (replicate 422 7), (102, replicate 422 7)) ∷
     (observe_for 1 12 1 (replicate 2048 (pos 5)) 0 1 (replicate 424 7), (102, replicate 424 7)) ∷
     [])
-unfolding Alike observe_for observe_call_refusal observe_call_exit is_kind kind_with kinds observe_refusal observe_checks window_rows tabulate is_system is_edition window_at out_of_range any_of record_after empty_record words_of parts_of packed joined
+unfolding Alike observe_for observe_call_refusal observe_call_exit is_kind kind_with kinds observe_refusal observe_checks window_rows tabulate is_system is_edition window_at out_of_range record_after empty_record words_of parts_of packed joined
 observations-worked = refl

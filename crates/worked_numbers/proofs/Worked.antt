@@ -5,7 +5,8 @@ use Prim.Native.Nat.{ℕ, ◌<◌}
 use lib.ListN.{get_or}
 use Rattle.algebra.specs.Fraction.{whole, times, divide}
 use Rattle.algebra.specs.Largest.{largest}
-use Rattle.algebra.specs.Lists.{tabulate, any_of}
+use Rattle.algebra.specs.Lists.{tabulate}
+use Rattle.std.specs.List.{list_any}
 use Rattle.algebra.specs.Rounding.{nearest}
 use Rattle.algebra.specs.Weighted.{sum_over, Everywhere}
 use Rattle.refusals.specs.Numbers.{no_refusal}
@@ -44,7 +45,7 @@ use Rattle.limit_tests.specs.Tests.{is_within, is_over}
 use Rattle.verdict.specs.Call.{combined, verdict_in, verdict_refusal, verdict_answer}
 use Rattle.records.specs.Average.{average_of, peak_of}
 use Rattle.columns.specs.Text.{bytes_of}
-use Rattle.columns.specs.Column.{are_digits, is_whole, place_value, whole_number, negative_number, signed_number, after_blanks, column_number}
+use Rattle.columns.specs.Column.{is_whole, place_value, whole_number, negative_number, signed_number, after_blanks, column_number}
 use Rattle.columns.specs.Calls.{column_read_answer}
 use Rattle.accuracy.proofs.GroupDistance.{lines-accepted, lines-of-group}
 use Rattle.worked_numbers.specs.Cases.{pulse, row_of, after_rows, group_under_a1, cases, cases_under_a1, Holds}
@@ -89,7 +90,7 @@ pulse-under-a1 kind system first value known at_first alike = (
 )
 
 pub worked-numbers : Everywhere Holds cases
-unfolding cases Holds table_entry nearest quarter_sine denominator added taken_away term factorial is_setup is_system is_edition same_setup value_over root_of largest span_of grouped_as weights_in weighted_sum sum_over tabulate any_of row_of after_rows record_after empty_record fresh_refusal fresh_answer book_at next_book with_row with_latest first_values row_checks add_row_refusal add_row_answer none_above all_zero is_sound smoothed_next book_step smoothed_value own_figures figure_in limit_of class_a_limit is_class class_with letter_of over_order limit_in_units peak_limit_in_units raised at_most is_within is_over average_of peak_of combined verdict_in verdict_refusal verdict_answer whole times divide bytes_of are_digits is_whole place_value whole_number negative_number signed_number after_blanks column_number column_read_answer
+unfolding cases Holds table_entry nearest quarter_sine denominator added taken_away term factorial is_setup is_system is_edition same_setup value_over root_of largest span_of grouped_as weights_in weighted_sum sum_over tabulate row_of after_rows record_after empty_record fresh_refusal fresh_answer book_at next_book with_row with_latest first_values row_checks add_row_refusal add_row_answer none_above all_zero is_sound smoothed_next book_step smoothed_value own_figures figure_in limit_of class_a_limit is_class class_with letter_of over_order limit_in_units peak_limit_in_units raised at_most is_within is_over average_of peak_of combined verdict_in verdict_refusal verdict_answer whole times divide bytes_of is_whole place_value whole_number negative_number signed_number after_blanks column_number column_read_answer
 worked-numbers = (
   refl,
   (

@@ -18,9 +18,8 @@ use Rattle.observation.specs.Calls.{fresh_answer}
 use Rattle.observation.specs.RecordAfter.{record_after}
 use Rattle.verdict.specs.declared.Verdict.{Verdict}
 use Rattle.verdict.specs.declared.Verdict.TheVariants.{Within, Close, Over}
-use Rattle.verdict.specs.declared.VerdictAnswer.TheVariants.{Given}
+use Rattle.verdict.specs.Call.{Given, verdict_answer}
 use Rattle.verdict.specs.Question.{asked}
-use Rattle.verdict.specs.Call.{verdict_answer}
 use Rattle.columns.specs.Text.{bytes_of}
 use Rattle.columns.specs.Calls.{column_read_answer}
 

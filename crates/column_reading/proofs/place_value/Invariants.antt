@@ -1,12 +1,7 @@
--- `column_reading::place_value` meets its contract. The loop's invariant: what is read so far, moved up by the places
--- that are left, and the value of the digits there, make the text's value; so no value on the way is above it.
-use Prim.Native.Nat.{◌≤◌, ◌-◌}
-use lib.ListN.{length}
-use Rattle.columns.proofs.Bytewise.{ReadTo}
+-- `column_reading::place_value` meets its contract. The loop's invariant: what is read so far is the value of the digits so far.
+use Rattle.std.proofs.Common.{◌≡◌, take}
+use Rattle.columns.specs.Column.{place_value}
 use Rattle.column_reading.proofs.place_value.Given as goal
 
-abbrev pub invariant-loop-at : goal.invariant-loop-at
-invariant-loop-at l = (l.at ≤ length l.text) × ReadTo l.text l.value l.at
-
-abbrev pub decreases-loop-at : goal.decreases-loop-at
-decreases-loop-at l = length l.text - l.at
+abbrev pub invariant-loop-digit : goal.invariant-loop-digit
+invariant-loop-digit l = l.value ≡ place_value (take l.digit-index l.digits)

@@ -1,14 +1,18 @@
 -- `harmlist::read_input` meets its contract.
-use Rattle.algebra.proofs.Tests.{or-either, or_left}
-use Rattle.harmlist.proofs.Blocks.{line-ends, text-ends}
+use Rattle.std.proofs.Common.{refl}
+use Rattle.std.proofs.lemmas.Result.{IfOk-weaker}
+use Rattle.harmlist.specs.declared.Input.TheVariants.{Ended, Whole}
+use Rattle.harmlist.specs.Input.{LineRead, BlocksRead, TextRead}
+use Rattle.harmlist.proofs.Blocks.{line_ends, text_ends}
 use Rattle.harmlist.proofs.read_input.Goals as goal
 
-pub returns-then-line : goal.returns-then-line
-returns-then-line c = let line = c.read_line-line in
-    line-ends line.result line.ensures (or-either line.result.short line.result.failed c.if-line.true)
+pub returns-in-Ended : goal.returns-in-Ended
+returns-in-Ended c =
+    let line : LineRead (Ended c.in-Ended.reading) = rw c.in-Ended.is at c.in_ok-reading.ensures in
+    line_ends (Ended c.in-Ended.reading) line refl
 
-pub returns : goal.returns
-returns c = let line = c.read_line-line in
-    text-ends line.result line.ensures c.read_blocks.result
-    (or_left line.result.short line.result.failed c.if-line.false)
-    c.read_blocks.ensures
+pub returns-in-Whole : goal.returns-in-Whole
+returns-in-Whole c =
+    let line : LineRead (Whole c.in-Whole.first) = rw c.in-Whole.is at c.in_ok-reading.ensures in
+    IfOk-weaker c.read_blocks.result (BlocksRead c.in-Whole.first) TextRead
+    (λ input read. text_ends (Whole c.in-Whole.first) line input refl read) c.read_blocks.ensures

@@ -1,13 +1,7 @@
--- `harmlist_output::narrowed` meets its contract. The loop's invariant: the first i values are those of the argument.
--- The measure is the count of values that are left.
-use Prim.Native.Nat.{◌-◌, ◌≤◌}
-use lib.ListN.{get_or}
+-- `harmlist_output::narrowed` meets its contract. The loop's invariant: the first `i` values are those of the argument.
+use Rattle.std.proofs.Common.{◌≡◌, ℕ, ◌<◌, length, get_or}
 use Rattle.rows.specs.Orders.{order_count}
-use Rattle.algebra.proofs.Filling.{Filled}
 use Rattle.harmlist_output.proofs.narrowed.Given as goal
 
 abbrev pub invariant-loop-i : goal.invariant-loop-i
-invariant-loop-i l = (l.i ≤ order_count) × Filled l.i (λ j. get_or l.values j 0) l.initial.narrow l.narrow
-
-abbrev pub decreases-loop-i : goal.decreases-loop-i
-decreases-loop-i l = order_count - l.i
+invariant-loop-i l = (length l.narrow ≡ order_count) × ((k : ℕ) → k < l.i → get_or l.narrow k 0 ≡ get_or l.values k 0)

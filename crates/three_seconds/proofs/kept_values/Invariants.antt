@@ -1,13 +1,9 @@
--- `three_seconds::kept_values` meets its contract. The loop's invariant: the values are
--- filled up to `j`. The measure is the count of values that are left.
-use Prim.Native.Nat.{◌+◌, ◌-◌, ◌≤◌}
-use lib.ListN.{get_or}
+-- `three_seconds::kept_values` meets its contract. The loop's invariant: the values are filled up to `j`.
+use Rattle.std.proofs.Common.{◌+◌, slice_index_or}
 use Rattle.algebra.proofs.Filling.{Filled}
-use Rattle.latest_rows.specs.Latest.{rows_kept, row_place}
+use Rattle.latest_rows.specs.Latest.{row_place}
 use Rattle.three_seconds.proofs.kept_values.Given as goal
 
 abbrev pub invariant-loop-j : goal.invariant-loop-j
-invariant-loop-j l = (l.j ≤ rows_kept) × Filled l.j (λ k. get_or l.latest (row_place (l.windows + k) + l.place) 0) l.initial.values l.values
-
-abbrev pub decreases-loop-j : goal.decreases-loop-j
-decreases-loop-j l = rows_kept - l.j
+invariant-loop-j l =
+    Filled l.j (λ k. slice_index_or l.observation.latest (row_place (l.observation.windows + k) + l.place) 0) l.initial.values l.values

@@ -20,6 +20,6 @@ cut-ends recording start first count f n =
 
 pub returns : goal.returns
 returns c = let a = c.args in
-    cut-ends a.recording.now a.start c.lesser-first.result c.lesser.result
-    c.lesser-first.ensures
-    c.lesser.ensures
+    cut-ends a.recording.now a.start c.min-first.result c.min.result
+    c.min-first.ensures
+    c.min.ensures

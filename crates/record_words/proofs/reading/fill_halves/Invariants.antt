@@ -1,7 +1,7 @@
 -- `record_words::reading::fill_halves` meets its contract. The loop's invariant: the values are
 -- filled up to `2 × k` with the halves of the words from the place on.
 -- The measure is the count of words that are left.
-use Prim.Native.Nat.{◌*◌, ◌-◌, ◌≤◌}
+use Prim.Native.Nat.{◌*◌, ◌≤◌}
 use Rattle.algebra.proofs.Filling.{Filled}
 use Rattle.lists.specs.LentWords.{words_from}
 use Rattle.record_words.specs.Words.{latest_words}
@@ -10,6 +10,3 @@ use Rattle.record_words.proofs.reading.fill_halves.Given as goal
 
 abbrev pub invariant-loop-k : goal.invariant-loop-k
 invariant-loop-k l = (l.k ≤ latest_words) × Filled (2 * l.k) (half_at (words_from l.place latest_words l.words)) l.initial.values l.values
-
-abbrev pub decreases-loop-k : goal.decreases-loop-k
-decreases-loop-k l = latest_words - l.k

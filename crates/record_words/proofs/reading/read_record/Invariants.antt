@@ -2,7 +2,7 @@
 -- the sums and the peaks are filled up to `i` with the words from their places on, and the rest is as
 -- it was. The measure is the count of orders that are left.
 use mathlib.Core.Path.{◌≡◌}
-use Prim.Native.Nat.{◌+◌, ◌-◌, ◌≤◌}
+use Prim.Native.Nat.{◌+◌, ◌≤◌}
 use lib.ListN.{length, get_or}
 use Rattle.algebra.proofs.Filling.{Filled}
 use Rattle.rows.specs.Orders.{order_count}
@@ -18,6 +18,3 @@ invariant-loop-i l = (l.i ≤ order_count) ×
     Filled l.i (λ k. get_or l.words (smoothed_place + k) 0) l.initial.read.smoothed l.read.smoothed ×
     Filled l.i (λ k. get_or l.words (smoothed_place + order_count + k) 0) l.initial.read.sum l.read.sum ×
     Filled l.i (λ k. get_or l.words (smoothed_place + order_count + order_count + k) 0) l.initial.read.peak l.read.peak
-
-abbrev pub decreases-loop-i : goal.decreases-loop-i
-decreases-loop-i l = order_count - l.i

@@ -20,5 +20,8 @@ returns c = let words = c.put_halves.new.words in
       c.put_part-3.ensures,
       c.put_part-2.ensures,
       c.put_part.ensures,
+      c.from.ensures,
+      c.from-2.ensures,
+      c.from-3.ensures,
     )
     (words_of-parts c.args.observation)
