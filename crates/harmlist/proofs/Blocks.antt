@@ -23,7 +23,7 @@ use Rattle.recordings.proofs.WindowAdded.{block_of-added}
 use Rattle.harmlist_output.proofs.Follows.{follows-definition, reading_after-append, stops-at-refusal}
 use Rattle.harmlist.specs.declared.Input.{Input}
 use Rattle.harmlist.specs.declared.Input.TheVariants.{Ended, Whole}
-use Rattle.harmlist.specs.Input.{reading_of, has_ended, IsPrefixLen, BytesRead, LineRead, AllWhole, BlocksRead, TextRead}
+use Rattle.harmlist.specs.Input.{reading_of, has_ended, IsPrefixLen, BytesRead, LineRead, BlockRead, AllWhole, BlocksRead, TextRead}
 
 -- ---- the bytes of one read
 
@@ -146,43 +146,46 @@ module _ (first reading : Reading) (so_far : SoFar first reading) where
     ends = inr (so_far.whole, f);
   }
 
-  module _ (buffer : List ℕ) (count : ℕ) (room : length buffer ≡ window_bytes) (counts : IsPrefixLen count buffer) where
-    abbrev bytes : List ℕ
-    bytes = take count buffer
-
-    reading-next : block_of reading bytes ≡ reading_after first (so_far.blocks ++ (bytes ∷ []))
+  module _ (input : Input) (read : BlockRead reading input) where
+    reading-next : reading_of input ≡ reading_after first (so_far.blocks ++ (read.bytes ∷ []))
     reading-next =
-        ap (λ (r : Reading). block_of r bytes) so_far.reading-is ∙ sym (reading-and-one first so_far.blocks bytes)
+        read.reading-is
+        ∙ ap (λ (r : Reading). block_of r read.bytes) so_far.reading-is
+        ∙ sym (reading-and-one first so_far.blocks read.bytes)
 
     -- with the last block
-    pub ends_with : BlocksRead first (Ended (block_of reading bytes))
-    ends_with = record {
-      blocks = so_far.blocks ++ (bytes ∷ []);
-      cut = whole-and-last so_far.blocks bytes so_far.whole (omega (arith, counts));
+    pub ends_with : has_ended input ≡ true → BlocksRead first input
+    ends_with ended = record {
+      blocks = so_far.blocks ++ (read.bytes ∷ []);
+      cut = whole-and-last so_far.blocks read.bytes so_far.whole read.fits;
       reading-is = reading-next;
-      ends = inl refl;
+      ends = inl ended;
     }
 
-    module _ (goes_on : window_bytes ≤ count) where
-      is-whole : length bytes ≡ window_bytes
-      is-whole = omega (arith, counts)
+    module _ (goes_on : has_ended input ≡ false) where
+      is-whole : length read.bytes ≡ window_bytes
+      is-whole = bytes_whole _ _ _ read goes_on
 
-      pub next : SoFar first (block_of reading bytes)
+      pub next : SoFar first (reading_of input)
       next = record {
-        blocks = so_far.blocks ++ (bytes ∷ []);
-        whole = whole-and-one so_far.blocks bytes so_far.whole is-whole;
+        blocks = so_far.blocks ++ (read.bytes ∷ []);
+        whole = whole-and-one so_far.blocks read.bytes so_far.whole is-whole;
         reading-is = reading-next;
       }
 
       -- each block leaves fewer to come
-      pub fewer-left : reading.refusal ≡ no_refusal → blocks_left (block_of reading bytes) < blocks_left reading
-      fewer-left e = by-refusal (ℕ_discrete (block_of reading bytes).refusal no_refusal)
+      pub fewer-left : reading.refusal ≡ no_refusal → blocks_left (reading_of input) < blocks_left reading
+      fewer-left e = by-refusal (ℕ_discrete (reading_of input).refusal no_refusal)
         where
-          by-refusal : Dec ((block_of reading bytes).refusal ≡ no_refusal) → blocks_left (block_of reading bytes) < blocks_left reading
+          by-refusal : Dec ((reading_of input).refusal ≡ no_refusal) → blocks_left (reading_of input) < blocks_left reading
           by-refusal (yes z) =
-              let added = block_of-added reading bytes (λ none. omega (arith, is-whole)) z in
-              rw (eq-eqb reading.refusal no_refusal e, eq-eqb (block_of reading bytes).refusal no_refusal z) (omega (arith, added))
-          by-refusal (no f) = rw (eq-eqb reading.refusal no_refusal e, ne_eqb (block_of reading bytes).refusal no_refusal f) (omega arith)
+              let after : (block_of reading read.bytes).refusal ≡ no_refusal =
+              sym (ap (λ (r : Reading). r.refusal) read.reading-is) ∙ z in
+              let added = block_of-added reading read.bytes (λ none. omega (arith, is-whole)) after in
+              let windows = ap (λ (r : Reading). r.observation.windows) read.reading-is in
+              rw (eq-eqb reading.refusal no_refusal e, eq-eqb (reading_of input).refusal no_refusal z)
+              (omega (arith, added, windows))
+          by-refusal (no f) = rw (eq-eqb reading.refusal no_refusal e, ne_eqb (reading_of input).refusal no_refusal f) (omega arith)
 
 -- ---- the whole text
 

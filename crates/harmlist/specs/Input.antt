@@ -4,7 +4,7 @@ use Rattle.refusals.specs.Numbers.{no_refusal}
 use Rattle.recordings.specs.declared.Reading.{Reading}
 use Rattle.recordings.specs.TextLines.{text_line_bytes}
 use Rattle.harmlist_output.specs.Output.{harmlist_output}
-use Rattle.recordings.specs.Blocks.{window_bytes, begin_of}
+use Rattle.recordings.specs.Blocks.{window_bytes, begin_of, block_of}
 use Rattle.harmlist_output.specs.Ending.{output_of}
 use Rattle.harmlist_output.specs.Follows.{WholeButLast, reading_after}
 use Rattle.harmlist.specs.declared.Input.{Input}
@@ -34,6 +34,10 @@ pub record BytesRead (most : ℕ) (read_as : List ℕ → Reading) (input : Inpu
 -- the first line
 abbrev pub LineRead : Input → Type 0
 LineRead = BytesRead text_line_bytes begin_of
+
+-- a window's lines
+abbrev pub BlockRead : Reading → Input → Type 0
+BlockRead before = BytesRead window_bytes (block_of before)
 
 -- all blocks have a window's lines
 unfoldable pub AllWhole : List (List ℕ) → Type 0

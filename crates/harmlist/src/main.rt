@@ -9,7 +9,7 @@
 #![tactic(auto)]
 
 ghost use Rattle.std.specs.Prelude.{◌≡◌, ◌≤◌, length, IfOk};
-ghost use Rattle.harmlist.specs.Input.{reading_of, IsPrefixLen, LineRead, BlocksRead, TextRead};
+ghost use Rattle.harmlist.specs.Input.{reading_of, IsPrefixLen, LineRead, BlockRead, BlocksRead, TextRead};
 
 use harmlist_output::finish;
 use listing::LISTING_ROOM;
@@ -88,6 +88,23 @@ fn read_line(stdin: &mut Stdin) -> io::Result<Input>
     })
 }
 
+// Reads one window's lines, by way of a buffer that is lent.
+fn read_block(
+    stdin: &mut Stdin,
+    block: &mut [u8; WINDOW_BYTES],
+    before: Reading,
+) -> io::Result<Input>
+    ensures { IfOk result (λ input. BlockRead before input) }
+{
+    let count = read_full(stdin, block)?;
+    let reading = take_block(before, &block[..count]);
+    Ok(if count < WINDOW_BYTES {
+        Input::Ended(reading)
+    } else {
+        Input::Whole(reading)
+    })
+}
+
 // Reads a window's lines at a time, until the first refusal or the end.
 fn read_blocks(stdin: &mut Stdin, first: Reading) -> io::Result<Input>
     ensures { IfOk result (λ input. BlocksRead first input) }
@@ -95,10 +112,9 @@ fn read_blocks(stdin: &mut Stdin, first: Reading) -> io::Result<Input>
     let mut block = [0; WINDOW_BYTES];
     let mut reading = first;
     while reading.refusal == NO_REFUSAL {
-        let count = read_full(stdin, &mut block)?;
-        reading = take_block(reading, &block[..count]);
-        if count < WINDOW_BYTES {
-            return Ok(Input::Ended(reading));
+        match read_block(stdin, &mut block, reading)? {
+            Input::Ended(last) => return Ok(Input::Ended(last)),
+            Input::Whole(more) => reading = more,
         }
     }
     Ok(Input::Whole(reading))

@@ -1,29 +1,26 @@
-use Rattle.std.proofs.Common.{refl, arith, ◌≡◌, length}
-use Rattle.recordings.specs.Blocks.{window_bytes}
+use Rattle.std.proofs.Common.{refl}
+use Rattle.harmlist.specs.declared.Input.TheVariants.{Ended, Whole}
+use Rattle.harmlist.specs.Input.{BlockRead}
 use Rattle.harmlist.proofs.Blocks.{begins, stops, ends_with, next, fewer-left}
 use Rattle.harmlist.proofs.read_blocks.Goals as goal
 
 pub loop-reading-init : goal.loop-reading-init
-loop-reading-init c = (refl, begins _)
+loop-reading-init c = begins _
 
-pub returns-then-count-lt-WINDOW_BYTES : goal.returns-then-count-lt-WINDOW_BYTES
-returns-then-count-lt-WINDOW_BYTES c =
-    let so_far = c.loop-reading.invariant in
-    let room : length c.read_full.new.buffer ≡ window_bytes = omega (arith, so_far.0, c.read_full.auto.buffer) in
-    rw c.take_block-reading.ensures (ends_with _ _ so_far.1 c.read_full.new.buffer c.in_ok-count.count room c.in_ok-count.ensures)
+pub returns-in-Ended : goal.returns-in-Ended
+returns-in-Ended c =
+    let read : BlockRead c.loop-reading.reading (Ended c.in-Ended.last) = rw c.in-Ended.is at c.in_ok-last.ensures in
+    ends_with _ _ c.loop-reading.invariant (Ended c.in-Ended.last) read refl
 
 pub loop-reading-smaller : goal.loop-reading-smaller
 loop-reading-smaller c =
-    let so_far = c.loop-reading.invariant in
-    let room : length c.read_full.new.buffer ≡ window_bytes = omega (arith, so_far.0, c.read_full.auto.buffer) in
-    rw c.take_block-reading.ensures
-    (fewer-left _ _ so_far.1 c.read_full.new.buffer c.in_ok-count.count room c.in_ok-count.ensures c.if-count-lt-WINDOW_BYTES.false c.loop-reading-test.true)
+    let read : BlockRead c.loop-reading.reading (Whole c.in-Whole.more) = rw c.in-Whole.is at c.in_ok-last.ensures in
+    fewer-left _ _ c.loop-reading.invariant (Whole c.in-Whole.more) read refl c.loop-reading-test.true
 
 pub loop-reading-preserved : goal.loop-reading-preserved
 loop-reading-preserved c =
-    let so_far = c.loop-reading.invariant in
-    let room : length c.read_full.new.buffer ≡ window_bytes = omega (arith, so_far.0, c.read_full.auto.buffer) in
-    (room, rw c.take_block-reading.ensures (next _ _ so_far.1 c.read_full.new.buffer c.in_ok-count.count room c.in_ok-count.ensures c.if-count-lt-WINDOW_BYTES.false))
+    let read : BlockRead c.loop-reading.reading (Whole c.in-Whole.more) = rw c.in-Whole.is at c.in_ok-last.ensures in
+    next _ _ c.loop-reading.invariant (Whole c.in-Whole.more) read refl
 
 pub returns : goal.returns
-returns c = stops _ _ c.loop-reading.invariant.1 c.loop-reading-test.false
+returns c = stops _ _ c.loop-reading.invariant c.loop-reading-test.false
