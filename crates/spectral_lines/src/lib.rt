@@ -15,7 +15,7 @@ pub const LINE_LIMIT: usize = 1024;
 const SUM_SHIFT: i64 = 28;
 
 // Both whole sums of a line, before any division. Those of samples in range are below 2^58.
-#[derive(Drop)]
+#[derive(Clone, Copy)]
 pub struct Sums {
     pub cosine: i64,
     pub sine: i64,

@@ -13,7 +13,9 @@ use refusals::{Refusal, refuse_if};
 // Samples in a window.
 pub const WINDOW_LENGTH: usize = 2048;
 // The largest sample; the smallest is its negative.
-const LARGEST_SAMPLE: i64 = 131071;
+const LARGEST_SAMPLE: i32 = 131071;
+// The same at the width of a number that was read from a text.
+const LARGEST_NUMBER: i64 = LARGEST_SAMPLE as i64;
 
 // The samples from `start` on, at most 2,048 of them: fewer, or none, where the recording ends before.
 pub fn window_at(recording: &[i32], start: usize) -> &[i32]
@@ -24,11 +26,18 @@ pub fn window_at(recording: &[i32], start: usize) -> &[i32]
     &recording[first..end]
 }
 
-// A number is out of a sample's range: a sample, or what was read from a text.
+// A number that was read from a text is out of a sample's range.
 pub fn out_of_range(number: i64) -> bool
     ensures { result ≡ out_of_range number }
 {
-    (number < -LARGEST_SAMPLE) | (LARGEST_SAMPLE < number)
+    (number < -LARGEST_NUMBER) | (LARGEST_NUMBER < number)
+}
+
+// A sample is out of range: `out_of_range` in 32 bits, in which a scan over samples takes half the time.
+fn is_outside(sample: i32) -> bool
+    ensures { result ≡ out_of_range sample }
+{
+    (sample < -LARGEST_SAMPLE) | (LARGEST_SAMPLE < sample)
 }
 
 // Some sample of the window is out of range. All are looked at, so that the loop has no branch.
@@ -37,7 +46,7 @@ pub fn any_out_of_range(window: &[i32]) -> bool
 {
     let mut found = false;
     for sample in window {
-        found |= out_of_range(i64::from(*sample));
+        found |= is_outside(*sample);
     }
     found
 }
