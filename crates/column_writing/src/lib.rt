@@ -1,14 +1,13 @@
-// Writing a number column of any width: blanks, and the number's text after them. The caller lends the buffer.
+// Writing a number column of any width: blanks, a minus below 0, and the digits from the right. The caller lends the buffer.
 #![tactic(auto)]
 
-ghost use Rattle.std.specs.Prelude.{◌≡◌, ◌≤◌, length};
+ghost use Rattle.std.specs.Prelude.{◌≡◌, ◌≤◌, ◌<◌, ◌^◌, ◌++◌, nat_abs, length, drop, replicate};
 ghost use Rattle.refusals.specs.Answers.{refusal_of};
-ghost use Rattle.columns.specs.Text.{right_justified};
-ghost use Rattle.columns.specs.Column.{number_text, fits_column};
+ghost use Rattle.columns.specs.Text.{blank, AtEnd};
+ghost use Rattle.columns.specs.Column.{digit_byte, decimal_text, number_text, fits_column};
 ghost use Rattle.columns.specs.Calls.{column_write_refusal, column_write_exit, column_fill_refusal, column_fill_exit};
 
 use columns::COLUMN_WIDTH;
-use itoa::Buffer;
 use refusals::{Refusal, refuse_if};
 
 // Writes the column of a number into a buffer of 8 bytes. Refused: 14 a buffer of another length, 13 a number that is wider.
@@ -21,27 +20,15 @@ pub fn write_column(buffer: &mut [u8], number: i64) -> Result<(), Refusal>
 }
 
 // Fills the buffer with the column of a number, as wide as the buffer. Refused: 13 a number that is wider.
-#[tactic(auto, unfolding(columns::specs::Column::fits_column, columns::specs::Column::column_text))]
+#[tactic(auto, using(columns::proofs::Writings::at_end_column, columns::proofs::Writings::at_end_length), unfolding(columns::specs::Column::fits_column, columns::specs::Column::column_text))]
 pub fn fill_column(buffer: &mut [u8], number: i64) -> Result<(), Refusal>
     ensures value { refusal_of result ≡ column_fill_refusal buffer.old number }
     ensures buffer_after { buffer.new ≡ column_fill_exit buffer.old number }
 {
-    let mut bytes = Buffer::new();
-    let text = number_text(&mut bytes, number);
-    refuse_if(buffer.len() < text.len(), Refusal::NotAColumn)?;
-    justify_right(buffer, text);
+    refuse_if(!fits_column(buffer.len(), number), Refusal::NotAColumn)?;
+    let at = write_number(buffer, number);
+    fill_blanks(buffer, at);
     Ok(())
-}
-
-// Writes a text to the end of the buffer, and blanks before it.
-#[tactic(auto, unfolding(columns::specs::Text::right_justified))]
-fn justify_right(buffer: &mut [u8], text: &[u8])
-    requires { length text.now ≤ length buffer.old }
-    ensures { buffer.new ≡ right_justified (length buffer.old) text.now }
-{
-    let blanks = buffer.len() - text.len();
-    buffer[..blanks].fill(b' ');
-    buffer[blanks..].copy_from_slice(text);
 }
 
 // Whether a column of a width can hold a number.
@@ -49,13 +36,78 @@ fn justify_right(buffer: &mut [u8], text: &[u8])
 pub fn fits_column(width: usize, number: i64) -> bool
     ensures { result ≡ fits_column width number }
 {
-    number_text(&mut Buffer::new(), number).len() <= width
+    text_length(number) <= width
 }
 
-// The text of a number, which stands in the bytes that are lent.
-#[tactic(auto, using(columns::proofs::NumberText::number_text_is))]
-fn number_text(bytes: &mut Buffer, number: i64) -> &[u8]
-    ensures { result.now ≡ number_text number }
+// Makes the first bytes of the buffer blanks. A loop, since the library's `fill` writes the last byte apart from the others: 9 instructions more a column.
+fn fill_blanks(buffer: &mut [u8], count: usize)
+    requires { count ≤ length buffer.old }
+    ensures { buffer.new ≡ replicate count blank ++ drop count buffer.old }
 {
-    bytes.format(number).as_bytes()
+    for i in 0..count {
+        buffer[i] = b' ';
+    }
+}
+
+// Writes the number's text at the end of the buffer, and answers its place.
+#[tactic(auto, using(columns::proofs::NumberText::number_text_negative, columns::proofs::NumberText::number_text_positive, columns::proofs::NumberText::number_text_digits_le, columns::proofs::Writings::at_end_more, columns::proofs::Writings::at_end_length))]
+fn write_number(buffer: &mut [u8], number: i64) -> usize
+    requires { length (number_text number) ≤ length buffer.old }
+    ensures { AtEnd buffer.old (number_text number) result buffer.new }
+{
+    let digits = write_digits(buffer, number.unsigned_abs());
+    if number < 0 {
+        let at = digits - 1;
+        buffer[at] = b'-';
+        return at;
+    }
+    digits
+}
+
+// Writes the decimal text at the end of the buffer, and answers its place. The loop counts no index: it goes on while digits are left.
+fn write_digits(buffer: &mut [u8], number: u64) -> usize
+    requires { length (decimal_text number) ≤ length buffer.old }
+    ensures { AtEnd buffer.old (decimal_text number) result buffer.new }
+{
+    let mut rest = number;
+    let mut at = buffer.len();
+    while rest >= 10 {
+        at -= 1;
+        buffer[at] = digit_byte(rest % 10);
+        rest /= 10;
+    }
+    at -= 1;
+    buffer[at] = digit_byte(rest);
+    at
+}
+
+fn digit_byte(digit: u64) -> u8
+    requires { digit < 10 }
+    ensures { result ≡ digit_byte digit }
+{
+    b'0' + digit as u8
+}
+
+// The number of bytes of a number's text.
+#[tactic(auto, using(columns::proofs::NumberText::number_text_negative, columns::proofs::NumberText::number_text_positive))]
+fn text_length(number: i64) -> usize
+    ensures { result ≡ length (number_text number) }
+{
+    let digits = digit_count(number.unsigned_abs());
+    if number < 0 { digits + 1 } else { digits }
+}
+
+// The loop counts no index: it tries each power of ten in turn, without a division.
+#[tactic(auto, using(columns::proofs::Writings::counted_one, columns::proofs::Writings::counted_more, columns::proofs::Writings::counted_all, columns::proofs::Writings::limit_fits))]
+fn digit_count(number: u64) -> usize
+    requires { number ≤ 2 ^ 63 }
+    ensures { result ≡ length (decimal_text number) }
+{
+    let mut count = 1;
+    let mut limit = 10;
+    while number >= limit {
+        limit *= 10;
+        count += 1;
+    }
+    count
 }

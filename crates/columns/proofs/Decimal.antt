@@ -3,7 +3,7 @@ use mathlib.Core.Bool.{true, false, not, ◌&&◌, false≢true}
 use mathlib.Core.List.{List, [], ◌∷◌, ◌++◌, append-nil, append_assoc}
 use mathlib.Core.Path.{◌≡◌, refl, ap, ◌∙◌}
 use Prim.Native.Nat.{ℕ, zero, suc, ◌+◌, ◌-◌, ◌*◌, ◌/◌, ◌%◌, ◌^◌, ◌≤◌, ◌<◌}
-use native.Mathlib.Nat.{not-suc-le-zero, le_refl, pow-zero, pow-suc}
+use native.Mathlib.Nat.{not-suc-le-zero, le_refl, pow-zero, pow-suc, one-le-pow}
 use native.Mathlib.Decide.{dec_lt}
 use native.Mathlib.Omega.{arith}
 use borrow.Author.Tests.{lt-ltb, le-ltb, le-leb, ne_eqb, ltb-true, leb-true, eqb-false, not-true}
@@ -61,6 +61,14 @@ length-le (suc w) n h = by-test (dec_lt n 10) (length-le w (n / 10))
         let ten : 10 ≤ n = omega arith in
         let places : n < 10 ^ suc w * 10 = rw (← pow-suc 10 (suc w)) h in
         omega (arith, length_above n ten, tenth (omega arith))
+
+-- and one from 10^w on has more than w
+pub length-gt : (w n : ℕ) → 10 ^ w ≤ n → w < length (decimal_text n)
+length-gt zero n h = length-positive n
+length-gt (suc w) n h =
+    let places : 10 ^ w * 10 ≤ n = rw (← pow-suc 10 w) h in
+    let some = one-le-pow w 10 (omega arith) in
+    omega (arith, length_above n (omega arith), length-gt w (n / 10) (omega arith))
 
 -- induction over the digits, from the last one
 pub decimal-ind : (P : ℕ → Type 0) → ((n : ℕ) → n < 10 → P n) → ((n : ℕ) → 10 ≤ n → P (n / 10) → P n) → (n : ℕ) → P n

@@ -3,4 +3,5 @@ pub mod Decimal
 pub mod Column
 pub mod Readings
 pub mod NumberText
+pub mod Writings
 pub mod WorkedColumns

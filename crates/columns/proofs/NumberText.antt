@@ -1,25 +1,26 @@
--- The text of a number is the one that std's formatting of it gives.
-use mathlib.Core.List.{List, ◌∷◌}
-use mathlib.Core.Path.{◌≡◌, ap}
-use Prim.Native.Nat.{ℕ, suc, ◌^◌, ◌<◌}
+-- The text of a number by its sign and magnitude.
+use mathlib.Core.List.{◌∷◌}
+use mathlib.Core.Path.{◌≡◌, refl}
+use Prim.Native.Nat.{◌≤◌}
 use native.Mathlib.Omega.{arith}
-use lib.IntN.{ℤ, pos, negsuc}
-use lib.Signed.{mag}
-use Rattle.std.specs.Fmt.{decimal, signed_decimal}
-use Rattle.std.proofs.Common.{rules}
-use Rattle.std.proofs.lemmas.Fmt.{AppendsLastDigit, decimal_from_appends, length-decimal-le_succ}
+use lib.IntN.{ℤ, pos, negsuc, nat_abs}
+use lib.ListN.{length}
+use Rattle.std.proofs.Common.{◌<ℤ◌, ◌≤ℤ◌}
+use Rattle.std.proofs.lemmas.Int.{ints}
 use Rattle.columns.specs.Text.{minus}
-use Rattle.columns.specs.Column.{decimal_within, decimal_text, number_text}
+use Rattle.columns.specs.Column.{decimal_text, number_text}
 
-appends : AppendsLastDigit decimal_within
-unfolding decimal_within
-appends = search rules
-
-decimal_is : (n : ℕ) → n < 2 ^ 64 → decimal_text n ≡ decimal n
-unfolding decimal_text
-decimal_is n h = decimal_from_appends decimal_within appends (suc n) n h (omega (arith, length-decimal-le_succ n h))
-
-pub number_text_is : (z : ℤ) → mag z < 2 ^ 63 → number_text z ≡ signed_decimal z
+pub number_text_negative : (z : ℤ) → z <ℤ pos 0 → number_text z ≡ minus ∷ decimal_text (nat_abs z)
 unfolding number_text
-number_text_is (pos n) h = decimal_is n (omega arith)
-number_text_is (negsuc n) h = ap (λ (t : List ℕ). minus ∷ t) (decimal_is (suc n) (omega arith))
+number_text_negative (pos n) h = absurd (omega (arith, ints))
+number_text_negative (negsuc n) h = refl
+
+pub number_text_positive : (z : ℤ) → pos 0 ≤ℤ z → number_text z ≡ decimal_text (nat_abs z)
+unfolding number_text
+number_text_positive (pos n) h = refl
+number_text_positive (negsuc n) h = absurd (omega (arith, ints))
+
+pub number_text_digits_le : (z : ℤ) → length (decimal_text (nat_abs z)) ≤ length (number_text z)
+unfolding number_text
+number_text_digits_le (pos n) = omega arith
+number_text_digits_le (negsuc n) = omega arith

@@ -46,7 +46,7 @@ fn put_listing(group: &[u32], subgroup: &[u32], smoothed: &[u32], buffer: &mut [
             subgroup: number_at(subgroup, i),
             smoothed: number_at(smoothed, i),
         };
-        end += line.put(&mut buffer[end..]);
+        end = line.put(buffer, end);
     }
     end
 }

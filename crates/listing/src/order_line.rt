@@ -1,5 +1,5 @@
 // The line of an order.
-ghost use Rattle.std.specs.Prelude.{true, ◌≡◌, ◌≤◌, ◌++◌, drop, pos, length};
+ghost use Rattle.std.specs.Prelude.{true, ◌≡◌, ◌+◌, ◌≤◌, ◌++◌, take, drop, pos, length};
 ghost use Rattle.rows.specs.Orders.{order_count};
 ghost use Rattle.columns.specs.Column.{fits_column, column_text};
 ghost use Rattle.listing.specs.Listing.{text_line_length, order_line, left_out, order_text};
@@ -24,21 +24,20 @@ pub(crate) struct OrderLine {
 }
 
 impl OrderLine {
-    // Puts the line to the front of a buffer unless it is left out, and answers the count of its bytes.
+    // Puts the line into a buffer from a place on unless it is left out, and answers the place after it.
     #[tactic(auto, using(crate::proofs::Lengths::length_line), unfolding(crate::specs::Listing::order_text))]
-    pub(crate) fn put(&self, buffer: &mut [u8]) -> usize
+    pub(crate) fn put(&self, buffer: &mut [u8], at: usize) -> usize
         requires order_le_order_count { self.now.order ≤ order_count }
-        requires room { text_line_length ≤ length buffer.old }
-        ensures value { result ≡ length (order_text self.now.order self.now.group self.now.subgroup self.now.smoothed) }
-        ensures bound { result ≤ text_line_length }
-        ensures buffer_after { buffer.new ≡ order_text self.now.order self.now.group self.now.subgroup self.now.smoothed ++ drop result buffer.old }
+        requires room { at + text_line_length ≤ length buffer.old }
+        ensures value { result ≡ at + length (order_text self.now.order self.now.group self.now.subgroup self.now.smoothed) }
+        ensures bound { result ≤ at + text_line_length }
+        ensures buffer_after { buffer.new ≡ take at buffer.old ++ order_text self.now.order self.now.group self.now.subgroup self.now.smoothed ++ drop result buffer.old }
     {
         if self.is_left_out() {
-            return 0;
+            return at;
         }
-        let (line, _) = buffer.split_at_mut(LINE_LENGTH);
-        self.fill(line);
-        LINE_LENGTH
+        self.fill(&mut buffer[at..at + LINE_LENGTH]);
+        at + LINE_LENGTH
     }
 
     // Three zeros, and not order 1.
@@ -56,12 +55,12 @@ impl OrderLine {
         ensures { line.new ≡ order_line self.now.order self.now.group self.now.subgroup self.now.smoothed }
     {
         let (order, values) = line.split_at_mut(ORDER_WIDTH);
-        let (group, values) = values.split_at_mut(VALUE_WIDTH);
-        let (subgroup, values) = values.split_at_mut(VALUE_WIDTH);
-        let (smoothed, end) = values.split_at_mut(VALUE_WIDTH);
         fill_number(order, self.order);
+        let (group, values) = values.split_at_mut(VALUE_WIDTH);
         fill_number(group, self.group);
+        let (subgroup, values) = values.split_at_mut(VALUE_WIDTH);
         fill_number(subgroup, self.subgroup);
+        let (smoothed, end) = values.split_at_mut(VALUE_WIDTH);
         fill_number(smoothed, self.smoothed);
         end.copy_from_slice(b"\n");
     }
