@@ -14,10 +14,9 @@ use Rattle.refusals.specs.Answers.{unless_refused}
 use Rattle.refusals.proofs.Answers.{no-fault, unless_refused-accepted}
 use Rattle.refusals.proofs.Results.{number_is_positive}
 use Rattle.exported_answers.specs.declared.CallRefusal.{CallRefusal}
-use Rattle.exported_answers.specs.declared.CallRefusal.TheVariants.{UnknownKind, WrongWordCount, Library}
+use Rattle.exported_answers.specs.declared.CallRefusal.TheVariants.{UnknownKind, WrongWordCount, Library, Numbered}
 use Rattle.exported_answers.specs.OwnChecks.{wrong_word_count}
 use Rattle.lists.proofs.LentWords.{words_from-whole}
-use Rattle.rows.specs.declared.Row.{Row}
 use Rattle.exported_answers.specs.CallRefusals.{call_number_of, call_refusal_of, values_left}
 
 -- ---- the call's own checks
@@ -46,6 +45,7 @@ pub call_number_is_positive : (refusal : CallRefusal) → 0 < call_number_of ref
 call_number_is_positive UnknownKind = omega arith
 call_number_is_positive WrongWordCount = omega arith
 call_number_is_positive (Library refusal) = number_is_positive refusal
+call_number_is_positive (Numbered number) = number.ok
 
 pub refused_call_is_no_acceptance : (refusal : CallRefusal) → eqb (call_number_of refusal) no_refusal ≡ false
 refused_call_is_no_acceptance refusal =
@@ -60,8 +60,8 @@ handed_over (Ok value) refusal accepted before e v = v ∙ sym (unless_refused-a
 handed_over (Err r) refusal accepted before e v = rw (← e, refused_call_is_no_acceptance r)
 
 -- and the values of a row, for as many of which there is room where nothing is refused
-pub handed_over_row : (result : Result Row CallRefusal) (refusal count : ℕ) (accepted before : List ℕ) →
-    call_refusal_of result ≡ refusal → IfOk result (λ row. row.values ≡ accepted) →
+pub handed_over_row : (result : Result (List ℕ) CallRefusal) (refusal count : ℕ) (accepted before : List ℕ) →
+    call_refusal_of result ≡ refusal → IfOk result (λ row. row ≡ accepted) →
     length accepted ≡ count → OnOk result (length before ≡ count) →
     values_left result before ≡ unless_refused refusal accepted before
 handed_over_row (Ok row) refusal count accepted before e same whole room =

@@ -5,7 +5,7 @@
 #![tactic(auto)]
 
 ghost use Rattle.std.specs.Prelude.{[], ◌∷◌, ◌≡◌, not, eqb, IfOk, OnOk};
-ghost use Rattle.std.specs.Result.{result_unwrap_or};
+ghost use Rattle.std.specs.Result.{result_unwrap_or, result_map_both};
 ghost use Rattle.refusals.specs.Answers.{first_fault, refusal_of};
 ghost use Rattle.rows.specs.Orders.{order_count};
 ghost use Rattle.exported_answers.specs.OwnChecks.{wrong_word_count, word_count_check};
@@ -14,7 +14,8 @@ ghost use Rattle.exported_answers.specs.declared.CallRefusal.TheVariants.{Librar
 
 use lists::put_numbers;
 use refusals::{NO_REFUSAL, Refusal};
-use rows::{ORDER_COUNT, Row, first_values};
+use rows::{ORDER_COUNT, first_values};
+use std::num::NonZeroU32;
 
 // Why an exported call is refused: what a number or a slice from another language may hold and a type of the library may not, or what the library says.
 #[derive(Clone, Copy, Debug, PartialEq, Eq)]
@@ -24,6 +25,8 @@ pub enum CallRefusal {
     // A slice of the wrong number of words for a row or a record.
     WrongWordCount,
     Library(Refusal),
+    // A refusal of which only its number is known.
+    Numbered(NonZeroU32),
 }
 
 impl CallRefusal {
@@ -35,6 +38,7 @@ impl CallRefusal {
             CallRefusal::UnknownKind => 101,
             CallRefusal::WrongWordCount => 102,
             CallRefusal::Library(refusal) => refusal.number(),
+            CallRefusal::Numbered(number) => number.get(),
         }
     }
 }
@@ -92,14 +96,14 @@ pub fn hand_over<T: Copy>(answer: Result<T, CallRefusal>, value: &mut T) -> u32
     }
 }
 
-// Hands the values of a row to the caller, unless the call is refused, and the refusal's number.
-pub fn hand_over_row(answer: Result<Row, CallRefusal>, values: &mut [u32]) -> u32
-    ensures value { result ≡ call_refusal_of answer }
-    ensures values_after { values.new ≡ values_left answer values.old }
+// Hands the values of a row to the caller, unless the call is refused, and the refusal's number. The row may have any number of values: 0 stands past its last.
+pub fn hand_over_row(answer: Result<&[u32], CallRefusal>, values: &mut [u32]) -> u32
+    ensures value { result ≡ call_refusal_of answer.entry }
+    ensures values_after { values.new ≡ values_left (result_map_both (λ row. row.now) (λ refusal. refusal) answer.entry) values.old }
 {
     match answer {
         Ok(row) => {
-            put_numbers(&row.values, values);
+            put_numbers(row, values);
             NO_REFUSAL
         }
         Err(refused) => refused.number(),

@@ -31,6 +31,7 @@ fn panel_row(
 }
 
 // Writes the 40 harmonic groups of the window that begins at `start`. The lines are 13 for the call's own use and hold 0 after it.
+#[tactic(auto, using(exported_answers::proofs::Handed::refused_call_is_no_acceptance), unfolding(crate::specs::PanelCall::panel_call_values_exit))]
 pub fn kifsang_panel_row(
     recording: &[i32],
     start: usize,
@@ -44,5 +45,8 @@ pub fn kifsang_panel_row(
     ensures values_after { values.new ≡ panel_call_values_exit (setup_of system edition) recording.now start lines.old values.old }
 {
     let setup = Setup { system, edition };
-    hand_over_row(panel_row(setup, recording, start, lines, values), values)
+    match panel_row(setup, recording, start, lines, values) {
+        Ok(row) => hand_over_row(Ok(&row.values), values),
+        Err(refusal) => hand_over_row(Err(refusal), values),
+    }
 }

@@ -54,12 +54,16 @@ fn group_row(kind: u32, setup: Setup, lines: &[u64], values: &[u32]) -> Result<R
 }
 
 // Writes the 40 values of a kind.
+#[tactic(auto, using(exported_answers::proofs::Handed::refused_call_is_no_acceptance), unfolding(crate::specs::GroupCalls::row_call_exit))]
 pub fn kifsang_row(kind: u32, system: u32, edition: u32, lines: &[u64], values: &mut [u32]) -> u32
     ensures value { result ≡ row_call_refusal kind (setup_of system edition) lines.now values.old }
     ensures values_after { values.new ≡ row_call_exit kind (setup_of system edition) lines.now values.old }
 {
     let setup = Setup { system, edition };
-    hand_over_row(group_row(kind, setup, lines, values), values)
+    match group_row(kind, setup, lines, values) {
+        Ok(row) => hand_over_row(Ok(&row.values), values),
+        Err(refusal) => hand_over_row(Err(refusal), values),
+    }
 }
 
 // The distortion of a row that is lent as words.
