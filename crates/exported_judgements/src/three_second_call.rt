@@ -7,7 +7,8 @@ ghost use Rattle.record_words.specs.Words.{record_words, record_read};
 ghost use Rattle.exported_judgements.specs.ThreeSecondCall.{three_second_call_refusal, three_second_call_exit};
 
 use exported_answers::{CallRefusal, check_word_count, hand_over};
-use record_words::{RECORD_WORDS, read_record};
+use observation::refused_record;
+use record_words::{RECORD_WORDS, fill_record};
 
 // The three-second value of an order of the record that some words hold.
 #[tactic(auto, using(exported_answers::proofs::Handed::own_fault_first, exported_answers::proofs::Handed::library_next), unfolding(three_seconds::specs::ThreeSecond::three_second_answer))]
@@ -16,7 +17,9 @@ fn three_second_value(words: &[u64], order: u32) -> Result<u64, CallRefusal>
     ensures accepted { IfOk result (λ value. value ≡ three_second_in (record_read words.now) order) }
 {
     check_word_count(words.len(), RECORD_WORDS)?;
-    Ok(three_seconds::three_second_value(&read_record(words), order)?)
+    let mut observation = refused_record();
+    fill_record(words, &mut observation);
+    Ok(three_seconds::three_second_value(&observation, order)?)
 }
 
 // Writes the three-second value of an order.

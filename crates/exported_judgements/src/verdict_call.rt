@@ -8,7 +8,8 @@ ghost use Rattle.record_words.specs.Words.{record_words, record_read};
 ghost use Rattle.exported_judgements.specs.VerdictCall.{verdict_number, verdict_call_refusal, verdict_call_exit};
 
 use exported_answers::{CallRefusal, check_word_count, hand_over};
-use record_words::{RECORD_WORDS, read_record};
+use observation::refused_record;
+use record_words::{RECORD_WORDS, fill_record};
 use verdict::{Question, Verdict};
 
 // The number of each case of a verdict. 0 is none, so that a variable that was zeroed and that no
@@ -31,7 +32,9 @@ fn order_verdict(words: &[u64], question: Question) -> Result<u32, CallRefusal>
     ensures accepted { IfOk result (λ number. number ≡ verdict_number (verdict_of (record_read words.now) question)) }
 {
     check_word_count(words.len(), RECORD_WORDS)?;
-    let verdict = verdict::order_verdict(&read_record(words), question)?;
+    let mut observation = refused_record();
+    fill_record(words, &mut observation);
+    let verdict = verdict::order_verdict(&observation, question)?;
     Ok(verdict_number(verdict))
 }
 

@@ -7,7 +7,7 @@ mod reading;
 mod writing;
 
 use latest_rows::VALUES_KEPT;
-pub use reading::read_record;
+pub use reading::{fill_record, read_record};
 use rows::{LARGEST_VALUE, ORDER_COUNT};
 pub use writing::hand_over_record;
 

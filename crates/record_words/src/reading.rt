@@ -41,28 +41,42 @@ fn fill_halves(words: &[u64], place: usize, values: &mut [u32; VALUES_KEPT])
     }
 }
 
-// The record that some words hold. Words that are missing count as 0. It is filled in place, so that no
-// second copy of it stands on the stack.
-pub fn read_record(words: &[u64]) -> Observation
-    ensures { result ≡ record_read words.now }
+// Makes a record the one that some words hold. Words that are missing count as 0. It is filled where it stands, so that no second copy of it
+// stands on the stack.
+pub fn fill_record(words: &[u64], observation: &mut Observation)
+    ensures { observation.new ≡ record_read words.now }
 {
-    let setup = Setup {
+    observation.setup = Setup {
         system: count_at(words, SYSTEM_PLACE),
         edition: count_at(words, EDITION_PLACE),
     };
+    observation.windows = count_at(words, WINDOWS_PLACE);
+    observation.smoothed = [0; ORDER_COUNT];
+    observation.sum = [0; ORDER_COUNT];
+    observation.peak = [0; ORDER_COUNT];
+    for i in 0..ORDER_COUNT {
+        observation.smoothed[i] = word_at(words, SMOOTHED_PLACE + i);
+        observation.sum[i] = word_at(words, SUM_PLACE + i);
+        observation.peak[i] = word_at(words, PEAK_PLACE + i);
+    }
+    fill_halves(words, LATEST_PLACE, &mut observation.latest);
+}
+
+// The record that some words hold. Words that are missing count as 0.
+pub fn read_record(words: &[u64]) -> Observation
+    ensures { result ≡ record_read words.now }
+{
     let mut read = Observation {
-        setup,
-        windows: count_at(words, WINDOWS_PLACE),
+        setup: Setup {
+            system: 0,
+            edition: 0,
+        },
+        windows: 0,
         smoothed: [0; ORDER_COUNT],
         sum: [0; ORDER_COUNT],
         peak: [0; ORDER_COUNT],
         latest: [0; VALUES_KEPT],
     };
-    for i in 0..ORDER_COUNT {
-        read.smoothed[i] = word_at(words, SMOOTHED_PLACE + i);
-        read.sum[i] = word_at(words, SUM_PLACE + i);
-        read.peak[i] = word_at(words, PEAK_PLACE + i);
-    }
-    fill_halves(words, LATEST_PLACE, &mut read.latest);
+    fill_record(words, &mut read);
     read
 }

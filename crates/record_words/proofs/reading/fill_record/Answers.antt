@@ -10,11 +10,11 @@ use Rattle.lists.specs.LentWords.{words_from}
 use Rattle.lists.proofs.LentWords.{words_from-one}
 use Rattle.record_words.specs.Parts.{parts_from}
 use Rattle.record_words.specs.Words.{record_read, of_parts}
-use Rattle.record_words.proofs.reading.read_record.Goals as goal
+use Rattle.record_words.proofs.reading.fill_record.Goals as goal
 
 pub loop-i-init : goal.loop-i-init
 unfolding tabulate
-loop-i-init c = (omega arith, refl, refl, refl, refl, refl, refl)
+loop-i-init c = (omega arith, refl, refl, omega arith, refl, refl, refl)
 
 -- what the loop begins with
 abbrev zeros : List ℕ
@@ -46,7 +46,7 @@ returns c = let words = c.args.words.now in
       c.fill_halves.ensures,
       c.count_at.ensures,
       c.count_at-2.ensures,
-      c.count_at-3.ensures,
+      c.count_at-observation.ensures,
       words_from-one 0 words,
       words_from-one 1 words,
       words_from-one 2 words,
