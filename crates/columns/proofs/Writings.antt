@@ -70,6 +70,18 @@ module _ {buffer after : List ℕ} {number rest at : ℕ} (d : DigitsWritten buf
       let all : digit_byte rest ∷ d.written ≡ decimal_text number = rw (decimal-below rest one) at d.parts in
       rw all at (at_end_more d.put (digit_byte rest) some)
 
+-- the last two digits of the rest, taken off as one number below 100
+pub digits_pair :
+    {buffer after : List ℕ} {number rest at : ℕ} → DigitsWritten buffer number rest at after →
+    100 ≤ rest → length (decimal_text number) ≤ length buffer →
+    DigitsWritten buffer number (rest / 100) (at - 1 - 1) (set (set after (at - 1) (digit_byte (rest % 100 % 10))) (at - 1 - 1) (digit_byte (rest % 100 / 10)))
+digits_pair {rest = rest} d several room =
+    let one : rest % 100 % 10 ≡ rest % 10 = omega arith in
+    let ten : rest % 100 / 10 ≡ rest / 10 % 10 = omega arith in
+    let left : rest / 100 ≡ rest / 10 / 10 = omega arith in
+    let last = digits_more d (omega arith) (digits_room d room) in
+    rw (one, ten, left) (digits_more last (omega arith) (digits_room last room))
+
 -- the digits that are counted so far by the powers of ten: `limit` is 1 with a 0 for each of them, and none of them is too many
 pub record Counted (number count limit : ℕ) : Type 0 where
   pub some : 1 ≤ count

@@ -1,8 +1,8 @@
 -- What an exported call leaves, from what its inner function answers.
 use mathlib.Core.Path.{◌≡◌, refl, sym, ◌∙◌}
-use mathlib.Core.Bool.{Bool, true, false, cond, not}
+use mathlib.Core.Bool.{Bool, true, false, cond, not, true≢false}
 use mathlib.Core.List.{List}
-use Prim.Native.Nat.{ℕ, ◌<◌}
+use Prim.Native.Nat.{ℕ, zero, suc, ◌<◌}
 use native.Mathlib.Omega.{arith}
 use lib.Dec.{eqb}
 use lib.ListN.{length}
@@ -15,7 +15,7 @@ use Rattle.refusals.proofs.Answers.{no-fault, unless_refused-accepted}
 use Rattle.refusals.proofs.Results.{number_is_positive}
 use Rattle.exported_answers.specs.declared.CallRefusal.{CallRefusal}
 use Rattle.exported_answers.specs.declared.CallRefusal.TheVariants.{UnknownKind, WrongWordCount, Library, Numbered}
-use Rattle.exported_answers.specs.OwnChecks.{wrong_word_count}
+use Rattle.exported_answers.specs.OwnChecks.{wrong_word_count, IsOther}
 use Rattle.lists.proofs.LentWords.{words_from-whole}
 use Rattle.exported_answers.specs.CallRefusals.{call_number_of, call_refusal_of, values_left}
 
@@ -40,12 +40,17 @@ count-passed count rest words e =
 
 -- ---- the inner function's answer
 
+-- a number that is another is not that of none
+other_is_positive : (n : ℕ) → IsOther n → 0 < n
+other_is_positive zero other = absurd (true≢false other)
+other_is_positive (suc n) other = omega arith
+
 -- a refusal's number is not that of none
 pub call_number_is_positive : (refusal : CallRefusal) → 0 < call_number_of refusal
 call_number_is_positive UnknownKind = omega arith
 call_number_is_positive WrongWordCount = omega arith
 call_number_is_positive (Library refusal) = number_is_positive refusal
-call_number_is_positive (Numbered number) = number.ok
+call_number_is_positive (Numbered other) = other_is_positive other.number other.other
 
 pub refused_call_is_no_acceptance : (refusal : CallRefusal) → eqb (call_number_of refusal) no_refusal ≡ false
 refused_call_is_no_acceptance refusal =

@@ -12,7 +12,7 @@ abbrev pub call_number_of : CallRefusal → ℕ
 call_number_of UnknownKind = unknown_kind
 call_number_of WrongWordCount = wrong_word_count
 call_number_of (Library refusal) = number_of refusal
-call_number_of (Numbered number) = number.value
+call_number_of (Numbered other) = other.number
 
 -- the number that a result gives: that of the refusal, or that of none
 abbrev pub call_refusal_of : {A : Type 0} → Result A CallRefusal → ℕ

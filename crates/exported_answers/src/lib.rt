@@ -12,10 +12,12 @@ ghost use Rattle.exported_answers.specs.OwnChecks.{wrong_word_count, word_count_
 ghost use Rattle.exported_answers.specs.CallRefusals.{call_number_of, call_refusal_of, values_left};
 ghost use Rattle.exported_answers.specs.declared.CallRefusal.TheVariants.{Library};
 
+mod other_number;
+
 use lists::put_numbers;
+pub use other_number::OtherNumber;
 use refusals::{NO_REFUSAL, Refusal};
 use rows::{ORDER_COUNT, first_values};
-use std::num::NonZeroU32;
 
 // Why an exported call is refused: what a number or a slice from another language may hold and a type of the library may not, or what the library says.
 #[derive(Clone, Copy, Debug, PartialEq, Eq)]
@@ -26,7 +28,7 @@ pub enum CallRefusal {
     WrongWordCount,
     Library(Refusal),
     // A refusal of which only its number is known.
-    Numbered(NonZeroU32),
+    Numbered(OtherNumber),
 }
 
 impl CallRefusal {
@@ -38,7 +40,7 @@ impl CallRefusal {
             CallRefusal::UnknownKind => 101,
             CallRefusal::WrongWordCount => 102,
             CallRefusal::Library(refusal) => refusal.number(),
-            CallRefusal::Numbered(number) => number.get(),
+            CallRefusal::Numbered(other) => other.number,
         }
     }
 }

@@ -47,22 +47,22 @@ impl OrderLine {
         self.group == 0 && self.subgroup == 0 && self.smoothed == 0 && self.order != 1
     }
 
-    // Fills a line with the columns, and a newline.
+    // Fills a line with the columns, and a newline: from the right, so that no part of it has to be held while another is filled.
     #[tactic(auto, using(crate::proofs::Lengths::order_fits, crate::proofs::Lengths::value_fits), unfolding(crate::specs::Listing::order_line))]
     fn fill(&self, line: &mut [u8])
         requires order_le_order_count { self.now.order ≤ order_count }
         requires line_len { length line.old ≡ text_line_length }
         ensures { line.new ≡ order_line self.now.order self.now.group self.now.subgroup self.now.smoothed }
     {
-        let (order, values) = line.split_at_mut(ORDER_WIDTH);
-        fill_number(order, self.order);
-        let (group, values) = values.split_at_mut(VALUE_WIDTH);
-        fill_number(group, self.group);
-        let (subgroup, values) = values.split_at_mut(VALUE_WIDTH);
-        fill_number(subgroup, self.subgroup);
-        let (smoothed, end) = values.split_at_mut(VALUE_WIDTH);
-        fill_number(smoothed, self.smoothed);
+        let (columns, end) = line.split_at_mut(LINE_LENGTH - 1);
         end.copy_from_slice(b"\n");
+        let (columns, smoothed) = columns.split_at_mut(ORDER_WIDTH + 2 * VALUE_WIDTH);
+        fill_number(smoothed, self.smoothed);
+        let (columns, subgroup) = columns.split_at_mut(ORDER_WIDTH + VALUE_WIDTH);
+        fill_number(subgroup, self.subgroup);
+        let (order, group) = columns.split_at_mut(ORDER_WIDTH);
+        fill_number(group, self.group);
+        fill_number(order, self.order);
     }
 }
 
